@@ -1,0 +1,9 @@
+//! The reader of program texts: tokens, and a parser whose answers are exactly the grammar's.
+//!
+//! `read_program` takes a text of any bytes and gives its tree. Its contract says which tree, that no
+//! text has two, and that a text is refused only where it has none.
+#![tactic(auto)]
+
+mod fault;
+
+pub use fault::TextFault;

@@ -1,0 +1,15 @@
+//! A packet transaction as a tree, and the grammar that ties it to its tokens.
+//!
+//! The types are the forms of the source. Contracts see a tree as plain data: a `Name` is its list of
+//! bytes, `Items` a list and `Boxed` the value inside. `specs/` says which token lists the grammar
+//! derives to which tree, and what a tree means: the value of an expression, the execution of the
+//! transaction on one packet, and its run over one packet after another.
+#![tactic(auto)]
+
+mod expr;
+mod program;
+mod token;
+
+pub use expr::Expr;
+pub use program::{Function, Item, PacketDecl, Program, Size, Start, Stmt, Target};
+pub use token::{Keyword, Sign, Token};

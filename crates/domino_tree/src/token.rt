@@ -1,0 +1,47 @@
+use mp5_words::Name;
+
+/// The reserved names.
+#[derive(Clone, Copy, Debug, PartialEq, Eq)]
+pub enum Keyword {
+    Struct,
+    Int,
+    Void,
+    If,
+    Else,
+}
+
+/// The signs that the grammar uses.
+#[derive(Clone, Copy, Debug, PartialEq, Eq)]
+pub enum Sign {
+    /// `+`
+    Plus,
+    /// `-`
+    Minus,
+    /// `=`
+    Assign,
+    /// `;`
+    Semicolon,
+    /// `.`
+    Dot,
+    /// `(`
+    OpenRound,
+    /// `)`
+    CloseRound,
+    /// `{`
+    OpenCurly,
+    /// `}`
+    CloseCurly,
+}
+
+/// A token of a program text.
+#[derive(Debug, Drop)]
+pub enum Token {
+    /// A name that isn't reserved.
+    Name(Name),
+    /// A reserved name.
+    Keyword(Keyword),
+    /// A number, as the word with its bits.
+    Number(i32),
+    /// A sign.
+    Sign(Sign),
+}
