@@ -2,5 +2,6 @@ pub use Rattle.domino_tree.specs.Meaning
 pub use Rattle.domino_syntax.specs.ThinText
 pub use Rattle.capture_io.specs.ClassicCapture
 pub use Rattle.capture_io.specs.Header
+pub mod ThinProgram
 pub mod Outside
 pub mod Faults

@@ -6,5 +6,7 @@
 #![tactic(auto)]
 
 mod outside;
+mod status;
 
 pub use outside::{Failed, Sink, Store, StoreFault};
+pub use status::{ProgramFault, Status};
