@@ -5,3 +5,7 @@ pub use Rattle.capture_io.specs.Header
 pub mod ThinProgram
 pub mod Outside
 pub mod Faults
+pub mod Writing
+pub mod CommandLine
+pub mod Report
+pub mod Causes
