@@ -4,3 +4,4 @@ pub use Rattle.capture_io.specs.ClassicCapture
 pub use Rattle.capture_io.specs.Header
 pub mod Outside
 pub mod Faults
+pub mod Transfer

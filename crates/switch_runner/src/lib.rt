@@ -5,6 +5,8 @@
 //! answers a `Status`; its contract is what the program promises.
 #![tactic(auto)]
 
+mod block;
 mod outside;
+mod transfer;
 
 pub use outside::{Failed, Sink, Store, StoreFault};
