@@ -9,3 +9,4 @@ pub mod Writing
 pub mod CommandLine
 pub mod Report
 pub mod Causes
+pub mod Transfer

@@ -5,8 +5,10 @@
 //! answers a `Status`; its contract is what the program promises.
 #![tactic(auto)]
 
+mod block;
 mod outside;
 mod status;
+mod transfer;
 
 pub use outside::{Failed, Sink, Store, StoreFault};
 pub use status::{ProgramFault, Status};
