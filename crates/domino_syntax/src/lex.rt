@@ -195,3 +195,71 @@ pub(crate) fn tokens_of(alloc: Global, text: &[u8]) -> Result<Vec<Token>, TextFa
     }
     Ok(tokens)
 }
+
+#[cfg(test)]
+mod tests {
+    use super::*;
+    use std::test::Fail;
+
+    /// The tokens of a text, each as a text of its own behind a space, with names in quotes.
+    fn shown(alloc: Global, text: &str) -> Result<String, Fail> {
+        let mut out = String::new(alloc);
+        for token in tokens_of(alloc, text.as_bytes())?.iter() {
+            match token {
+                Token::Name(name) => {
+                    out.push_str(" '")?;
+                    for b in name.bytes() {
+                        out.push(char::from(*b))?;
+                    }
+                    out.push('\'')?;
+                }
+                Token::Keyword(reserved) => write!(out, " {reserved:?}")?,
+                Token::Number(value) => write!(out, " {value}")?,
+                Token::Sign(sign) => write!(out, " {sign:?}")?,
+            }
+        }
+        Ok(out)
+    }
+
+    #[test]
+    fn cuts_texts(rt: HostRuntime) -> Result<(), Fail> {
+        for (text, want) in [
+            ("", ""),
+            (" \t\n\u{b}\u{c}\r", ""),
+            ("int x;", " Int 'x' Semicolon"),
+            ("struct void if else", " Struct Void If Else"),
+            ("ints _if else1 Int", " 'ints' '_if' 'else1' 'Int'"),
+            ("(p){}", " OpenRound 'p' CloseRound OpenCurly CloseCurly"),
+            (
+                "p.f=p.f+1;",
+                " 'p' Dot 'f' Assign 'p' Dot 'f' Plus 1 Semicolon",
+            ),
+            ("a= =-0", " 'a' Assign Assign Minus 0"),
+            ("1.50", " 1 Dot 50"),
+            ("2147483647 2147483648", " 2147483647 -2147483648"),
+            ("4294967295", " -1"),
+        ] {
+            assert_eq!(rt; shown(rt.alloc(), text)?.as_str(), want, "at {text}");
+        }
+        for text in [
+            "4294967296",
+            "18446744073709551617",
+            "00",
+            "07",
+            "12ab",
+            "1_0",
+            "a==b",
+            "===",
+            "x * y",
+            "a\0",
+            "\u{e9}",
+        ] {
+            let refused = matches!(
+                tokens_of(rt.alloc(), text.as_bytes()),
+                Err(TextFault::NotYet)
+            );
+            assert!(rt; refused, "at {text}");
+        }
+        Ok(())
+    }
+}
