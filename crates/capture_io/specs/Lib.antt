@@ -1,2 +1,3 @@
 pub mod ClassicCapture
 pub mod Header
+pub mod Rows

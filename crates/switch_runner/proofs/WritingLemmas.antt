@@ -1,9 +1,11 @@
 -- Texts put one after another are put as one.
-use Rattle.std.proofs.Common.{◌≡◌, ◌∙◌, ◌≤◌, ◌+◌, ◌^◌, ◌-◌, ℕ, List, [], ◌∷◌, ◌++◌, length, take, drop, Option, Some, None, refl, sym, ap, subst, arith, append_assoc, min}
+use Rattle.std.proofs.Common.{◌≡◌, ◌∙◌, ◌≤◌, ◌<◌, ◌+◌, get_or, add-one, drop-cons, Result, Ok, Err, ◌^◌, ◌-◌, ℕ, List, [], ◌∷◌, ◌++◌, length, take, drop, Option, Some, None, refl, sym, ap, subst, arith, append_assoc, min}
 use Rattle.std.proofs.lemmas.List.{append-nil, append_cancel_left, take-append-drop}
-use Rattle.std.proofs.Math.Seq.{take-append-add, take-append_seam}
+use Rattle.std.specs.List.{flat_map}
+use Rattle.std.proofs.Math.Seq.{take-append-add, take-append_seam, take-length}
 use Rattle.switch_runner.specs.Outside.{Rose, TookFront, gained}
-use Rattle.switch_runner.specs.Writing.{At, Wrote, Broke}
+use Rattle.switch_runner.specs.Writing.{At, Wrote, Broke, Puts}
+use Rattle.switch_runner.proofs.TransferLemmas.{TookFront-first, TookFront-second}
 
 -- what is gained in two parts is gained at once
 gained-append : (a b : List ℕ) (o : Option (List ℕ)) → gained (a ++ b) o ≡ gained b (gained a o)
@@ -28,7 +30,7 @@ joined : (o f y z : List ℕ) (m : ℕ) → f ++ y ≡ z → (o ++ f) ++ take m 
 joined o f y z m e = append_assoc o f (take m y) ∙ ap (λ l. o ++ l) (sym (take-append-add f y m) ∙ ap (take (length f + m)) e)
 
 pub took_then : (old mid new : Option (List ℕ)) (waits waits' a b : List ℕ) → gained waits' mid ≡ gained (waits ++ a) old
-  → TookFront old mid (waits ++ a) → TookFront mid new (waits' ++ b) → TookFront old new (waits ++ (a ++ b))
+    → TookFront old mid (waits ++ a) → TookFront mid new (waits' ++ b) → TookFront old new (waits ++ (a ++ b))
 took_then None mid new waits waits' a b whole (n, first) (m, second) = (0, second ∙ ap (gained (take m (waits' ++ b))) first)
 took_then (Some o) mid new waits waits' a b whole (n, first) (m, second) =
     let f : List ℕ = take n (waits ++ a) in
@@ -49,14 +51,76 @@ wrote_none s = record { whole = ap (λ l. gained l s.taken) (sym (append-nil s.w
 
 pub wrote_then : (a b : List ℕ) (s t u : At) → Wrote a s t → Wrote b t u → Wrote (a ++ b) s u
 wrote_then a b s t u p q = record {
-    whole = q.whole ∙ gained-append t.waits b t.taken ∙ ap (gained b) p.whole ∙ sym (gained-append (s.waits ++ a) b s.taken) ∙ ap (λ l. gained l s.taken) (append_assoc s.waits a b);
-    front = took_then s.taken t.taken u.taken s.waits t.waits a b p.whole p.front q.front;
-    later = omega (arith, p.later, q.later) }
+  whole = q.whole ∙ gained-append t.waits b t.taken ∙ ap (gained b) p.whole ∙ sym (gained-append (s.waits ++ a) b s.taken) ∙ ap (λ l. gained l s.taken) (append_assoc s.waits a b);
+  front = took_then s.taken t.taken u.taken s.waits t.waits a b p.whole p.front q.front;
+  later = omega (arith, p.later, q.later);
+}
 
 pub broke_then : (a b : List ℕ) (s t u : At) → Wrote a s t → Broke b t u → Broke (a ++ b) s u
 broke_then a b s t u p q = record {
     front = took_then s.taken t.taken u.taken s.waits t.waits a b p.whole p.front q.front;
+    later = omega (arith, p.later, q.later);
     rose = let h : s.faults ≤ t.faults = p.later in let k : min (t.faults + 1) (2 ^ 64 - 1) ≤ u.faults = q.rose in omega arith }
 
 pub broke_more : (a b : List ℕ) (s u : At) → Broke a s u → Broke (a ++ b) s u
-broke_more a b s u p = record { front = took_more s.taken u.taken s.waits a b p.front; rose = p.rose }
+broke_more a b s u p = record { front = took_more s.taken u.taken s.waits a b p.front; later = p.later; rose = p.rose }
+
+-- all of a list was taken
+took_all : (bytes : List ℕ) (old new : Option (List ℕ)) → new ≡ gained bytes old → TookFront old new bytes
+took_all bytes old new e = (length bytes, e ∙ ap (λ l. gained l old) (sym (take-length bytes)))
+
+-- what waited was taken, and the text waits
+pub wrote_flushed : (text : List ℕ) (s t : At) (waited : List ℕ) → waited ≡ s.waits → t.waits ≡ text → t.taken ≡ gained waited s.taken → s.faults ≤ t.faults → Wrote text s t
+wrote_flushed text s t waited same waits taken later = record {
+  whole = ap (λ l. gained l t.taken) waits ∙ ap (gained text) (taken ∙ ap (λ l. gained l s.taken) same) ∙ sym (gained-append s.waits text s.taken);
+  front = TookFront-first s.waits waited text s.taken t.taken same (took_all waited s.taken t.taken taken);
+  later = later;
+}
+
+-- what waited was taken, and then the text
+pub wrote_through : (text : List ℕ) (s t : At) (mid : Option (List ℕ)) (waited : List ℕ) → waited ≡ s.waits → t.waits ≡ [] → mid ≡ gained waited s.taken → t.taken ≡ gained text mid → s.faults ≤ t.faults → Wrote text s t
+wrote_through text s t mid waited same waits first second later = record {
+  whole = ap (λ l. gained l t.taken) waits ∙ gained-nil t.taken ∙ second ∙ ap (gained text) (first ∙ ap (λ l. gained l s.taken) same) ∙ sym (gained-append s.waits text s.taken);
+  front = TookFront-second s.waits waited text s.taken mid t.taken same first (took_all text mid t.taken second);
+  later = later;
+}
+
+-- a text is on its way: all but this rest of it is put
+pub record Goes (whole rest : List ℕ) (old new : At) : Type 0 where
+  pub done : List ℕ
+  pub parts : done ++ rest ≡ whole
+  pub wrote : Wrote done old new
+
+pub goes_start : (whole : List ℕ) (s : At) → Goes whole whole s s
+goes_start whole s = record { done = []; parts = refl; wrote = wrote_none s }
+
+pub goes_on : (whole piece rest rest' : List ℕ) (s t u : At) → rest ≡ piece ++ rest' → Goes whole rest s t → Wrote piece t u → Goes whole rest' s u
+goes_on whole piece rest rest' s t u e g w = record {
+  done = g.done ++ piece;
+  parts = append_assoc g.done piece rest' ∙ ap (λ l. g.done ++ l) (sym e) ∙ g.parts;
+  wrote = wrote_then g.done piece s t u g.wrote w;
+}
+
+pub goes_broken : (whole piece rest rest' : List ℕ) (s t u : At) → rest ≡ piece ++ rest' → Goes whole rest s t → Broke piece t u → Broke whole s u
+goes_broken whole piece rest rest' s t u e g b =
+    subst (λ (l : List ℕ). Broke l s u) (append_assoc g.done piece rest' ∙ ap (λ l. g.done ++ l) (sym e) ∙ g.parts)
+    (broke_more (g.done ++ piece) rest' s u (broke_then g.done piece s t u g.wrote b))
+
+pub goes_end : (whole rest : List ℕ) (s t : At) → rest ≡ [] → Goes whole rest s t → Wrote whole s t
+goes_end whole rest s t e g = subst (λ (l : List ℕ). Wrote l s t) (sym (append-nil g.done) ∙ ap (λ l. g.done ++ l) (sym e) ∙ g.parts) g.wrote
+
+-- the pieces from one on are that one and those after it
+pub flat_map_from : {X : Type 0} (f : X → List ℕ) (xs : List X) (i : ℕ) (d : X) → i < length xs → flat_map f (drop i xs) ≡ f (get_or xs i d) ++ flat_map f (drop (i + 1) xs)
+flat_map_from f xs i d h = rw (add-one, drop-cons xs i d) refl
+
+-- the last part of a text
+pub puts_last : {T E : Type 0} (whole piece : List ℕ) (s t u : At) (r : Result T E) → Goes whole piece s t → Puts piece t u r → Puts whole s u r
+puts_last whole piece s t u (Ok x) g w = goes_end whole [] s u refl (goes_on whole piece piece [] s t u (sym (append-nil piece)) g w)
+puts_last whole piece s t u (Err e) g b = goes_broken whole piece piece [] s t u (sym (append-nil piece)) g b
+
+-- what waits is on its way too, where nothing waited before
+pub took_flushed : (text : List ℕ) (s t : At) (new : Option (List ℕ)) → s.waits ≡ [] → Wrote text s t → TookFront t.taken new t.waits → TookFront s.taken new text
+took_flushed text s t new empty w took =
+    let all : TookFront s.taken new (s.waits ++ (text ++ [])) =
+        took_then s.taken t.taken new s.waits t.waits text [] w.whole w.front (subst (λ (l : List ℕ). TookFront t.taken new l) (sym (append-nil t.waits)) took) in
+    subst (λ (l : List ℕ). TookFront s.taken new l) (ap (λ l. l ++ (text ++ [])) empty ∙ append-nil text) all

@@ -46,3 +46,7 @@ outcome_text names outcome n = packet_lines names.fields 0 outcome.packets ++ (r
 -- the report of the sequential run over these headers
 abbrev pub report : Program → List (List ℤ) → List ℕ
 report p headers = outcome_text (names_of p) (one p headers) (length headers)
+
+-- the same text, from the packets as rows of words
+abbrev pub words_text : List (List ℕ) → List (List ℕ) → List (List ℤ) → List ℤ → ℕ → List ℕ
+words_text fields cells packets values n = packet_lines fields 0 packets ++ (register_lines cells values ++ done_line n)

@@ -3,6 +3,7 @@ ghost use Rattle.std.specs.Prelude.{◌≡◌, ◌≤◌, ◌<◌, ◌+◌, ◌+
 ghost use Rattle.std.specs.Bool.{OnTrue, OnFalse};
 ghost use Rattle.switch_runner.specs.Outside.{TookFront, gained};
 ghost use Rattle.switch_runner.specs.Faults.{WriteCause};
+ghost use Rattle.switch_runner.specs.Writing.{Puts, at};
 
 use crate::outside::{Failed, Sink};
 use crate::transfer::write_all;
@@ -39,11 +40,8 @@ impl Block {
     /// Adds a piece, and writes the block first where the piece has no room in it. A piece that is
     /// larger than the block is written by itself. Takes no memory.
     pub(crate) fn put<K: Sink>(&mut self, out: &mut K, piece: &[u8]) -> Result<(), Failed>
-        ensures ok { OnOk result
-            (gained self.new (K.taken out.new) ≡ gained (self.old ++ piece.now) (K.taken out.old)) }
-        ensures err { OnErr result
-            (TookFront (K.taken out.old) (K.taken out.new) (self.old ++ piece.now)) }
-        ensures cause { WriteCause (K.faults out.old) (K.faults out.new) result }
+        ensures { Puts piece.now (at self.old (K.taken out.old) (K.faults out.old))
+            (at self.new (K.taken out.new) (K.faults out.new)) result }
     {
         if self.add(piece) {
             return Ok(());

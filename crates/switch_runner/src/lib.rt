@@ -7,6 +7,7 @@
 
 mod block;
 mod outside;
+mod report;
 mod status;
 mod transfer;
 

@@ -1,0 +1,51 @@
+-- The text from a field or a register on.
+use Rattle.std.proofs.Common.{◌≡◌, ◌∙◌, ◌<◌, ◌≤◌, ◌+◌, ◌-◌, ◌*◌, take, arith, codes, decimal, append_assoc, ℕ, suc, ℤ, pos, List, [], ◌∷◌, ◌++◌, length, drop, get_or, Option, Some, refl, sym, ap, add-one, drop-cons}
+use Rattle.std.specs.List.{slice_get}
+use Rattle.capture_io.specs.Rows.{rows}
+use Rattle.std.proofs.lemmas.List.{append-nil}
+use Rattle.std.proofs.lemmas.Option.{get_or_from_slice_get}
+use Rattle.switch_runner.specs.Report.{field_text, fields_text, packet_line, packet_lines, register_line, register_lines}
+
+both : {A B : Type 0} (f : A → B → List ℕ) (a a' : A) (b b' : B) → a ≡ a' → b ≡ b' → f a b ≡ f a' b'
+both f a a' b b' p q = ap (λ x. f x b) p ∙ ap (f a') q
+
+pub fields_from : (ns : List (List ℕ)) (zs : List ℤ) (i : ℕ) (n : List ℕ) (z d : ℤ) → i < length ns → i < length zs → slice_get ns i ≡ Some n → z ≡ get_or zs i d
+    → fields_text (drop i ns) (drop i zs) ≡ field_text n z ++ fields_text (drop (i + 1) ns) (drop (i + 1) zs)
+fields_from ns zs i n z d h k e f =
+    rw (add-one, drop-cons ns i n, drop-cons zs i d)
+    (ap (λ l. l ++ fields_text (drop (suc i) ns) (drop (suc i) zs)) (both field_text (get_or ns i n) n (get_or zs i d) z (get_or_from_slice_get ns i n n e) (sym f)))
+
+pub registers_from : (ns : List (List ℕ)) (zs : List ℤ) (i : ℕ) (n : List ℕ) (z d : ℤ) → i < length ns → i < length zs → n ≡ get_or ns i n → z ≡ get_or zs i d
+    → register_lines (drop i ns) (drop i zs) ≡ register_line n z ++ register_lines (drop (i + 1) ns) (drop (i + 1) zs)
+registers_from ns zs i n z d h k e f =
+    rw (add-one, drop-cons ns i n, drop-cons zs i d)
+    (ap (λ l. l ++ register_lines (drop (suc i) ns) (drop (suc i) zs)) (both register_line (get_or ns i n) n (get_or zs i d) z (sym e) (sym f)))
+
+-- the parts of a packet's line, as they are put
+pub packet_parts : (names : List (List ℕ)) (t : ℕ) (packet : List ℤ) (digits : List ℕ) → digits ≡ decimal t
+    → packet_line names t packet ≡ (codes "pkt " ++ (digits ++ [])) ++ (fields_text names packet ++ (10 ∷ []))
+packet_parts names t packet digits e =
+    sym (append_assoc (codes "pkt ") (digits ++ []) (fields_text names packet ++ (10 ∷ []))
+    ∙ ap (λ l. codes "pkt " ++ (l ++ (fields_text names packet ++ (10 ∷ [])))) (append-nil digits ∙ e))
+
+-- one row, and the rows after it
+pub rows_from : (count t width : ℕ) (words : List ℤ) → t < count → rows (count - t) width words ≡ take width words ∷ rows (count - (t + 1)) width (drop width words)
+rows_from count t width words h = let e : count - t ≡ suc (count - (t + 1)) = omega arith in rw e refl
+
+packets_after : (names : List (List ℕ)) (count t width : ℕ) (words : List ℤ) → t < count
+    → packet_lines names t (rows (count - t) width words) ≡ packet_line names t (take width words) ++ packet_lines names (t + 1) (rows (count - (t + 1)) width (drop width words))
+packets_after names count t width words h = ap (packet_lines names t) (rows_from count t width words h)
+
+pub packets_from : (names : List (List ℕ)) (count t width : ℕ) (words front back : List ℤ) → t < count → width ≡ length names → front ≡ take width words → back ≡ drop width words
+    → packet_lines names t (rows (count - t) (length names) words) ≡ packet_line names t front ++ packet_lines names (t + 1) (rows (count - (t + 1)) (length names) back)
+packets_from names count t width words front back h e f b =
+    packets_after names count t (length names) words h
+    ∙ ap (λ l. packet_line names t l ++ packet_lines names (t + 1) (rows (count - (t + 1)) (length names) (drop (length names) words))) (ap (λ w. take w words) (sym e) ∙ sym f)
+    ∙ ap (λ l. packet_line names t front ++ packet_lines names (t + 1) (rows (count - (t + 1)) (length names) l)) (ap (λ w. drop w words) (sym e) ∙ sym b)
+
+-- a row fits what is left of the rows
+pub row_fits : (count t width len : ℕ) → t < count → len ≡ (count - t) * width → width ≤ len
+row_fits count t width len h e = let f : count - t ≡ suc (count - (t + 1)) = omega arith in omega (arith, e, ap (λ n. n * width) f)
+
+pub row_left : (count t width len rest : ℕ) → t < count → len ≡ (count - t) * width → rest + width ≡ len → rest ≡ (count - (t + 1)) * width
+row_left count t width len rest h e k = let f : count - t ≡ suc (count - (t + 1)) = omega arith in omega (arith, e, k, ap (λ n. n * width) f)

@@ -1,0 +1,14 @@
+use Rattle.std.proofs.Common.{◌≡◌, ◌+◌, ◌-◌, ◌*◌, length}
+use Rattle.capture_io.specs.Rows.{rows}
+use Rattle.switch_runner.specs.Writing.{at}
+use Rattle.switch_runner.specs.Report.{packet_lines}
+use Rattle.switch_runner.proofs.WritingLemmas.{Goes}
+use Rattle.switch_runner.proofs.report.put_packets.Given as goal
+
+-- the packets before this one are put, and the rest is that of the packets from this one on
+abbrev pub invariant-loop-t : goal.invariant-loop-t
+invariant-loop-t g l =
+    (length l.rest ≡ (l.count - l.t) * length l.names)
+    × Goes (packet_lines l.names 0 (rows l.count (length l.names) l.packets)) (packet_lines l.names l.t (rows (l.count - l.t) (length l.names) l.rest))
+    (at l.initial.block (g.K.Sink.taken l.initial.out) (g.K.Sink.faults l.initial.out))
+    (at l.block (g.K.Sink.taken l.out) (g.K.Sink.faults l.out))

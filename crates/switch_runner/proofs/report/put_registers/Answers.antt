@@ -1,0 +1,19 @@
+use Rattle.std.proofs.Common.{◌≡◌, ◌<◌, ◌++◌, length, get_or, drop, pos, arith, rules, w32, FitsSigned}
+use Rattle.std.proofs.lemmas.Int.{to_z-of_z}
+use Rattle.switch_runner.proofs.ReportLemmas.{registers_from}
+use Rattle.switch_runner.proofs.WritingLemmas.{goes_on, goes_broken}
+use Rattle.switch_runner.proofs.report.put_registers.Goals as goal
+
+pub returns-in-Err : goal.returns-in-Err
+returns-in-Err g c =
+    let fits : FitsSigned w32 (get_or c.args.values.now c.loop-i.i (pos 0)) = search rules in
+    goes_broken _ _ _ _ _ _ _
+    (registers_from c.args.names.now c.args.values.now c.loop-i.i _ _ (pos 0) c.loop-i-test.true (omega (arith, c.requires, c.loop-i-test.true)) c.index-names-i.is (to_z-of_z w32 _ fits))
+    c.loop-i.invariant c.in-Err.ensures
+
+pub loop-i-preserved : goal.loop-i-preserved
+loop-i-preserved g c =
+    let fits : FitsSigned w32 (get_or c.args.values.now c.loop-i.i (pos 0)) = search rules in
+    goes_on _ _ _ _ _ _ _
+    (registers_from c.args.names.now c.args.values.now c.loop-i.i _ _ (pos 0) c.loop-i-test.true (omega (arith, c.requires, c.loop-i-test.true)) c.index-names-i.is (to_z-of_z w32 _ fits))
+    c.loop-i.invariant c.in-Ok.ensures

@@ -1,0 +1,12 @@
+use Rattle.std.proofs.Common.{drop}
+use Rattle.switch_runner.specs.Writing.{at}
+use Rattle.switch_runner.specs.Report.{register_lines}
+use Rattle.switch_runner.proofs.WritingLemmas.{Goes}
+use Rattle.switch_runner.proofs.report.put_registers.Given as goal
+
+-- the registers before this one are put
+abbrev pub invariant-loop-i : goal.invariant-loop-i
+invariant-loop-i g l =
+    Goes (register_lines l.names l.values) (register_lines (drop l.i l.names) (drop l.i l.values))
+    (at l.initial.block (g.K.Sink.taken l.initial.out) (g.K.Sink.faults l.initial.out))
+    (at l.block (g.K.Sink.taken l.out) (g.K.Sink.faults l.out))
