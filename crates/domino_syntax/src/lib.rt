@@ -5,5 +5,7 @@
 #![tactic(auto)]
 
 mod fault;
+mod parse;
+mod reader;
 
 pub use fault::TextFault;
