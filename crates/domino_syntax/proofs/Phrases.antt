@@ -4,6 +4,7 @@ use denote.Enum.Bare.{same_true, true_same}
 use Rattle.std.specs.List.{list_all, flat_map}
 use Rattle.std.proofs.lemmas.Bool.{and_from, and_parts}
 use Rattle.std.proofs.lemmas.List.{append-nil}
+use Rattle.std.proofs.Math.Bool.{and-true}
 use Rattle.mp5_words.specs.declared.op.Op2.{Op2}
 use Rattle.mp5_words.specs.declared.op.Op2.TheVariants.{Add, Sub}
 use Rattle.domino_tree.specs.contracts.token.Sign.{the_type as sign_type}
@@ -26,7 +27,9 @@ use Rattle.domino_tree.specs.declared.program.Stmt.{Stmt}
 use Rattle.domino_tree.specs.declared.program.Stmt.TheVariants as stmt
 use Rattle.domino_tree.specs.declared.program.Function.{Function}
 use Rattle.domino_tree.specs.Grammar.{is_name, sign_of, level, spelled, stands, operators, target_tokens, is_target, stmt_tokens, is_stmt, declaration, item_tokens, is_item, packet_tokens, is_packet, function_tokens, is_function, program_tokens, is_program}
-use Rattle.domino_syntax.specs.Reading.{is_token, Outcome, Parser, and_then, ◌>>=◌, pure, all_of, same_sign, same_keyword, sees_sign, sees_keyword, sees_name, sign, keyword, name, eat_sign, eat_number, end, field, expr_of, name_or_field, term, next_operator, by_operator, chain, max_operators, expression, target_of, written, statement, statements, declared_name, fields, register, items, packet, head, function, parts}
+use Rattle.domino_tree.proofs.ExprLemmas.{spelled-Number, spelled-Word, spelled-Field, spelled-Two, stands-Number, stands-Word, stands-Field, stands-Two, operators-Number, operators-Word, operators-Field, operators-Two, induct}
+use Rattle.domino_syntax.specs.Reading.{is_token, Outcome, Parser, and_then, ◌>>=◌, pure, all_of, same_sign, same_keyword, sees_sign, sees_keyword, sees_name, sign, keyword, name, eat_sign, eat_number, end, field, reference, expr_of, number_or, name_or_field, term, next_operator, by_operator, chain, max_operators, expression, target_of, written, statement, statements, declared_name, fields, register, items, packet, head, function, parts}
+use Rattle.domino_syntax.proofs.Turns.{chain_turn}
 use Rattle.domino_syntax.proofs.Exact.{Named, Front, Fronts, Exact, anything, exact_as, Then, named_rest, exact_then, exact_next, Image, exact_map, By, exact_list, not_true}
 
 -- ---- one token
@@ -170,10 +173,6 @@ exact_field = record {
   complete = λ used rest f h stop. ap (λ l. field (l ++ rest)) h.text ∙ field_complete f rest stop;
 }
 
--- a name, and a field's name where one comes after it
-abbrev reference : {B : Type 0} → (List ℕ → Option (List ℕ) → B) → Parser B
-reference make = name >>= (λ w. field >>= (λ f. pure (make w f)))
-
 record IsReference {B : Type 0} (make : List ℕ → Option (List ℕ) → B) (used : List Token) (y : B) : Type 0 where
   pub word : List ℕ
   pub after : Option (List ℕ)
@@ -199,3 +198,97 @@ exact_reference make =
         first = record { text = refl; holds = (and_parts (is_name h.word) (is_field h.after) h.named).0 };
         second = record { value = h.after; form = record { text = refl; holds = (and_parts (is_name h.word) (is_field h.after) h.named).1 }; is = h.is };
       })
+
+-- the targets are the references
+target_text : (w : List ℕ) (f : Option (List ℕ)) → target_tokens (target_of w f) ≡ token.Name w ∷ field_tokens f
+target_text w None = refl
+target_text w (Some f) = refl
+
+target_named : (w : List ℕ) (f : Option (List ℕ)) → is_target (target_of w f) ≡ (is_name w && is_field f)
+target_named w None = sym (and-true (is_name w))
+target_named w (Some f) = refl
+
+target_reference : (used : List Token) (t : Target) → By target_tokens is_target used t → IsReference target_of used t
+target_reference used (target.Word w) h = record { word = w; after = None; text = h.text; named = and-true (is_name w) ∙ h.holds; is = refl }
+target_reference used (target.Field p f) h = record { word = p; after = Some f; text = h.text; named = h.holds; is = refl }
+
+exact_written : Exact written (By target_tokens is_target) no_dot
+unfolding written
+exact_written =
+    exact_as (By target_tokens is_target) (exact_reference target_of)
+      (λ used t h. record {
+        text = h.text ∙ (sym (target_text h.word h.after) ∙ ap target_tokens (sym h.is));
+        holds = ap is_target h.is ∙ (target_named h.word h.after ∙ h.named);
+      })
+      target_reference
+
+-- ---- operands
+
+-- whether an expression may stand at the tightest level, so that it has no operator
+abbrev is_operand : Expr → Bool
+is_operand e = stands e 10
+
+expr_text : (w : List ℕ) (f : Option (List ℕ)) → spelled (expr_of w f) ≡ token.Name w ∷ field_tokens f
+expr_text w None = spelled-Word w
+expr_text w (Some f) = spelled-Field w f
+
+expr_named : (w : List ℕ) (f : Option (List ℕ)) → is_operand (expr_of w f) ≡ (is_name w && is_field f)
+expr_named w None = stands-Word w 10 ∙ sym (and-true (is_name w))
+expr_named w (Some f) = stands-Field w f 10
+
+expr_reference : (tokens : List Token) (o : Outcome Expr) → Fronts (IsReference expr_of) tokens o → Fronts (By spelled is_operand) tokens o
+expr_reference tokens (Ok r) f = record {
+  used = f.used;
+  parts = f.parts;
+  form = record {
+    text = f.form.text ∙ (sym (expr_text f.form.word f.form.after) ∙ ap spelled (sym f.form.is));
+    holds = ap is_operand f.form.is ∙ (expr_named f.form.word f.form.after ∙ f.form.named);
+  };
+}
+expr_reference tokens (Err rest) f = tt
+
+exact_name_or_field : Exact name_or_field (IsReference expr_of) no_dot
+unfolding name_or_field
+exact_name_or_field = exact_reference expr_of
+
+term_sound : (tokens : List Token) → Named tokens → Fronts (By spelled is_operand) tokens (term tokens)
+unfolding term eat_number
+term_sound [] named = expr_reference [] (name_or_field []) (exact_name_or_field.sound [] named)
+term_sound (token.Name w ∷ rest) named = expr_reference (token.Name w ∷ rest) (name_or_field (token.Name w ∷ rest)) (exact_name_or_field.sound (token.Name w ∷ rest) named)
+term_sound (token.Keyword k ∷ rest) named = expr_reference (token.Keyword k ∷ rest) (name_or_field (token.Keyword k ∷ rest)) (exact_name_or_field.sound (token.Keyword k ∷ rest) named)
+term_sound (token.Number n ∷ rest) named = record { used = token.Number n ∷ []; parts = refl; form = record { text = sym (spelled-Number n); holds = stands-Number n 10 } }
+term_sound (token.Sign s ∷ rest) named = expr_reference (token.Sign s ∷ rest) (name_or_field (token.Sign s ∷ rest)) (exact_name_or_field.sound (token.Sign s ∷ rest) named)
+
+term_number : (n : ℤ) (rest : List Token) → term (token.Number n ∷ rest) ≡ Ok (expr.Number n, rest)
+unfolding term eat_number
+term_number n rest = refl
+
+term_name : (w : List ℕ) (rest : List Token) → term (token.Name w ∷ rest) ≡ name_or_field (token.Name w ∷ rest)
+unfolding term eat_number
+term_name w rest = refl
+
+term_reference : (w : List ℕ) (f : Option (List ℕ)) (rest : List Token) → (is_name w && is_field f) ≡ true → no_dot rest ≡ true → term (token.Name w ∷ (field_tokens f ++ rest)) ≡ Ok (expr_of w f, rest)
+term_reference w f rest named stop =
+    term_name w (field_tokens f ++ rest) ∙ exact_name_or_field.complete (token.Name w ∷ field_tokens f) rest (expr_of w f) (record { word = w; after = f; text = refl; named = named; is = refl }) stop
+
+no_operand : (op : Op2) (a b : Expr) → is_operand (expr.Two op a b) ≡ true → ⊥
+no_operand Add a b h = let e = stands-Two Add a b 10 in cc
+no_operand Sub a b h = let e = stands-Two Sub a b 10 in cc
+
+abbrev ReadsTerm : Expr → Type 0
+ReadsTerm e = is_operand e ≡ true → (rest : List Token) → no_dot rest ≡ true → term (spelled e ++ rest) ≡ Ok (e, rest)
+
+term_complete : (e : Expr) → ReadsTerm e
+term_complete e =
+    induct ReadsTerm
+      (λ n h rest stop. ap (λ l. term (l ++ rest)) (spelled-Number n) ∙ term_number n rest)
+      (λ w h rest stop. ap (λ l. term (l ++ rest)) (spelled-Word w) ∙ term_reference w None rest (and-true (is_name w) ∙ (sym (stands-Word w 10) ∙ h)) stop)
+      (λ p f h rest stop. ap (λ l. term (l ++ rest)) (spelled-Field p f) ∙ term_reference p (Some f) rest (sym (stands-Field p f 10) ∙ h) stop)
+      (λ op a b read_a read_b h rest stop. absurd (no_operand op a b h))
+      e
+
+exact_term : Exact term (By spelled is_operand) no_dot
+exact_term = record {
+  sound = term_sound;
+  complete = λ used rest e h stop. ap (λ l. term (l ++ rest)) h.text ∙ term_complete e h.holds rest stop;
+}

@@ -142,16 +142,20 @@ field = do
   found ← eat_sign signs.Dot
   if found then name >>= (λ f. pure (Some f)) else pure None
 
+-- what is made of a name, and of a field's name where one comes after it
+abbrev pub reference : {A : Type 0} → (List ℕ → Option (List ℕ) → A) → Parser A
+reference make = do
+  w ← name
+  f ← field
+  pure (make w f)
+
 abbrev pub expr_of : List ℕ → Option (List ℕ) → Expr
 expr_of w None = expr.Word w
 expr_of w (Some f) = expr.Field w f
 
 -- a register or a field
 unfoldable pub name_or_field : Parser Expr
-name_or_field = do
-  w ← name
-  f ← field
-  pure (expr_of w f)
+name_or_field = reference expr_of
 
 abbrev pub number_or : Parser Expr → Option ℤ → Parser Expr
 number_or other None = other
@@ -205,10 +209,7 @@ target_of w (Some f) = target.Field w f
 
 -- a register or a field
 unfoldable pub written : Parser Target
-written = do
-  w ← name
-  f ← field
-  pure (target_of w f)
+written = reference target_of
 
 unfoldable pub statement : Parser Stmt
 statement = do
