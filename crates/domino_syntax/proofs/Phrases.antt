@@ -2,7 +2,8 @@
 use Rattle.std.proofs.Common.{◌≡◌, ℕ, zero, suc, ◌≤◌, ◌+◌, ◌-◌, ℤ, Bool, true, false, not, ◌&&◌, nat_le, if◌then◌else◌, List, [], ◌∷◌, ◌++◌, length, drop, Option, Some, None, Ok, Err, IfOk, refl, ap, sym, subst, ◌∙◌, append_assoc, arith, length-append, rules}
 use denote.Enum.Bare.{same_true, true_same}
 use Rattle.std.specs.List.{list_all, flat_map}
-use Rattle.std.proofs.lemmas.Bool.{and_from, and_parts}
+use Rattle.std.specs.Option.{is_some}
+use Rattle.std.proofs.lemmas.Bool.{and_from, and_parts, leb-true, le-leb}
 use Rattle.std.proofs.lemmas.List.{append-nil}
 use Rattle.std.proofs.Math.Bool.{and-true}
 use Rattle.mp5_words.specs.declared.op.Op2.{Op2}
@@ -28,7 +29,7 @@ use Rattle.domino_tree.specs.declared.program.Stmt.TheVariants as stmt
 use Rattle.domino_tree.specs.declared.program.Function.{Function}
 use Rattle.domino_tree.specs.Grammar.{is_name, sign_of, level, spelled, stands, operators, target_tokens, is_target, stmt_tokens, is_stmt, declaration, item_tokens, is_item, packet_tokens, is_packet, function_tokens, is_function, program_tokens, is_program}
 use Rattle.domino_tree.proofs.ExprLemmas.{spelled-Number, spelled-Word, spelled-Field, spelled-Two, stands-Number, stands-Word, stands-Field, stands-Two, operators-Number, operators-Word, operators-Field, operators-Two, induct}
-use Rattle.domino_syntax.specs.Reading.{is_token, Outcome, Parser, and_then, ◌>>=◌, pure, all_of, same_sign, same_keyword, sees_sign, sees_keyword, sees_name, sign, keyword, name, eat_sign, eat_number, end, field, reference, expr_of, number_or, name_or_field, term, next_operator, by_operator, chain, max_operators, expression, target_of, written, statement, statements, declared_name, fields, register, items, packet, head, function, parts}
+use Rattle.domino_syntax.specs.Reading.{is_token, Outcome, Parser, and_then, operator_of, ◌>>=◌, pure, all_of, same_sign, same_keyword, sees_sign, sees_keyword, sees_name, sign, keyword, name, eat_sign, eat_number, end, field, reference, expr_of, number_or, name_or_field, term, next_operator, by_operator, chain, max_operators, expression, target_of, written, statement, statements, declared_name, fields, register, items, packet, head, function, parts}
 use Rattle.domino_syntax.proofs.Turns.{chain_turn}
 use Rattle.domino_syntax.proofs.Exact.{Named, Front, Fronts, Exact, anything, exact_as, Then, named_rest, exact_then, exact_next, Image, exact_map, By, exact_list, not_true}
 
@@ -292,3 +293,371 @@ exact_term = record {
   sound = term_sound;
   complete = λ used rest e h stop. ap (λ l. term (l ++ rest)) h.text ∙ term_complete e h.holds rest stop;
 }
+
+-- ---- expressions
+
+-- an expression of operators that associate to the left
+abbrev is_sum : Expr → Bool
+is_sum e = stands e 9
+
+two_stands : (op : Op2) (a b : Expr) → is_sum (expr.Two op a b) ≡ (is_sum a && is_operand b)
+two_stands Add a b = stands-Two Add a b 9
+two_stands Sub a b = stands-Two Sub a b 9
+
+operator_sign : (s : Sign) (op : Op2) → operator_of s ≡ Some op → s ≡ sign_of op
+operator_sign signs.Plus Add h = refl
+operator_sign signs.Minus Sub h = refl
+operator_sign _ _ h = cc
+
+operator_front : (tokens : List Token) (op : Op2) → next_operator tokens ≡ Some op → tokens ≡ token.Sign (sign_of op) ∷ drop 1 tokens
+operator_front [] op h = cc
+operator_front (token.Name w ∷ rest) op h = cc
+operator_front (token.Keyword k ∷ rest) op h = cc
+operator_front (token.Number n ∷ rest) op h = cc
+operator_front (token.Sign s ∷ rest) op h = ap (λ s. token.Sign s ∷ rest) (operator_sign s op h)
+
+operator_next : (op : Op2) (rest : List Token) → next_operator (token.Sign (sign_of op) ∷ rest) ≡ Some op
+operator_next Add rest = refl
+operator_next Sub rest = refl
+
+operator_no_dot : (op : Op2) (rest : List Token) → no_dot (token.Sign (sign_of op) ∷ rest) ≡ true
+operator_no_dot Add rest = refl
+operator_no_dot Sub rest = refl
+
+-- an operand stands at each level, and has no operator
+operand_is_sum : (e : Expr) → is_operand e ≡ true → is_sum e ≡ true
+operand_is_sum e =
+    induct (λ e. is_operand e ≡ true → is_sum e ≡ true)
+      (λ n h. stands-Number n 9)
+      (λ w h. stands-Word w 9 ∙ (sym (stands-Word w 10) ∙ h))
+      (λ p f h. stands-Field p f 9 ∙ (sym (stands-Field p f 10) ∙ h))
+      (λ op a b k l h. absurd (no_operand op a b h))
+      e
+
+operand_counts : (e : Expr) → is_operand e ≡ true → operators e ≡ 0
+operand_counts e =
+    induct (λ e. is_operand e ≡ true → operators e ≡ 0)
+      (λ n h. operators-Number n)
+      (λ w h. operators-Word w)
+      (λ p f h. operators-Field p f)
+      (λ op a b k l h. absurd (no_operand op a b h))
+      e
+
+two_text : (op : Op2) (a b : Expr) (rest : List Token) → spelled (expr.Two op a b) ++ rest ≡ spelled a ++ (token.Sign (sign_of op) ∷ (spelled b ++ rest))
+two_text op a b rest =
+    ap (λ l. l ++ rest) (spelled-Two op a b) ∙ append_assoc (spelled a) (token.Sign (sign_of op) ∷ spelled b) rest
+
+-- going on from an expression by at most n operators gives another
+record Tail (n : ℕ) (left : Expr) (tokens : List Token) (e : Expr) (rest : List Token) : Type 0 where
+  pub used : List Token
+  pub parts : tokens ≡ used ++ rest
+  pub text : spelled e ≡ spelled left ++ used
+  pub holds : is_sum e ≡ true
+  pub count : operators e ≤ operators left + n
+
+abbrev Tails : ℕ → Expr → List Token → Outcome Expr → Type 0
+Tails n left tokens o = IfOk o (λ r. Tail n left tokens r.0 r.1)
+
+tail_done : (n : ℕ) (left : Expr) (tokens : List Token) → is_sum left ≡ true → Tail n left tokens left tokens
+tail_done n left tokens holds = record { used = []; parts = refl; text = sym (append-nil (spelled left)); holds = holds; count = omega arith }
+
+tail_more : (n : ℕ) (op : Op2) (left right : Expr) (tokens middle : List Token) → tokens ≡ token.Sign (sign_of op) ∷ drop 1 tokens → Front (By spelled is_operand) (drop 1 tokens) right middle → (o : Outcome Expr) → Tails n (expr.Two op left right) middle o → Tails (suc n) left tokens o
+tail_more n op left right tokens middle starts f (Ok r) t = record {
+  used = token.Sign (sign_of op) ∷ (spelled right ++ t.used);
+  parts = starts ∙ ap (λ l. token.Sign (sign_of op) ∷ l) (f.parts ∙ (ap (λ l. l ++ middle) f.form.text ∙ (ap (λ l. spelled right ++ l) t.parts ∙ sym (append_assoc (spelled right) t.used r.1))));
+  text = t.text ∙ two_text op left right t.used;
+  holds = t.holds;
+  count = omega (arith, t.count, operators-Two op left right, operand_counts right f.form.holds);
+}
+tail_more n op left right tokens middle starts f (Err rest) t = tt
+
+by_operator_sound : (n : ℕ) (left : Expr) (tokens : List Token) (o : Option Op2) (more : Op2 → Outcome Expr) → next_operator tokens ≡ o → is_sum left ≡ true → ((op : Op2) → tokens ≡ token.Sign (sign_of op) ∷ drop 1 tokens → Tails n left tokens (more op)) → Tails n left tokens (by_operator o left more tokens)
+by_operator_sound n left tokens None more is holds sound = tail_done n left tokens holds
+by_operator_sound n left tokens (Some op) more is holds sound = sound op (operator_front tokens op is)
+
+joined_sound : (n : ℕ) (op : Op2) (left : Expr) (tokens : List Token) (o : Outcome Expr) → tokens ≡ token.Sign (sign_of op) ∷ drop 1 tokens → Named (drop 1 tokens) → is_sum left ≡ true → Fronts (By spelled is_operand) (drop 1 tokens) o → ((left : Expr) (l : List Token) → is_sum left ≡ true → Named l → Tails n left l (chain term n left l)) → Tails (suc n) left tokens (and_then o (λ right. chain term n (expr.Two op left right)))
+joined_sound n op left tokens (Ok r) starts named holds f sound =
+    tail_more n op left r.0 tokens r.1 starts f (chain term n (expr.Two op left r.0) r.1)
+      (sound (expr.Two op left r.0) r.1 (two_stands op left r.0 ∙ and_from (is_sum left) (is_operand r.0) holds f.form.holds) (named_rest (drop 1 tokens) f.used r.1 f.parts named))
+joined_sound n op left tokens (Err rest) starts named holds f sound = tt
+
+chain_sound : (n : ℕ) (left : Expr) (tokens : List Token) → is_sum left ≡ true → Named tokens → Tails n left tokens (chain term n left tokens)
+unfolding chain
+chain_sound zero left tokens holds named = by_operator_sound zero left tokens (next_operator tokens) (λ _. Err tokens) refl holds (λ op starts. tt)
+chain_sound (suc n) left tokens holds named =
+    by_operator_sound (suc n) left tokens (next_operator tokens) (λ op. and_then (term (drop 1 tokens)) (λ right. chain term n (expr.Two op left right))) refl holds
+      (λ op starts.
+        let later = named_rest tokens (token.Sign (sign_of op) ∷ []) (drop 1 tokens) starts named in
+        joined_sound n op left tokens (term (drop 1 tokens)) starts later holds (exact_term.sound (drop 1 tokens) later) (chain_sound n))
+
+chain_ends : (n : ℕ) (left : Expr) (rest : List Token) → next_operator rest ≡ None → chain term n left rest ≡ Ok (left, rest)
+unfolding chain
+chain_ends zero left rest ends = rw ends
+chain_ends (suc n) left rest ends = rw ends
+
+-- An expression at the front is read as its first operand, and the chain goes on from the whole.
+abbrev Unrolls : Expr → Type 0
+Unrolls e = is_sum e ≡ true → (n : ℕ) (rest : List Token) → no_dot rest ≡ true → and_then (term (spelled e ++ rest)) (chain term (operators e + n)) ≡ chain term n e rest
+
+operand_unrolls : (e : Expr) → is_operand e ≡ true → (n : ℕ) (rest : List Token) → no_dot rest ≡ true → and_then (term (spelled e ++ rest)) (chain term (operators e + n)) ≡ chain term n e rest
+operand_unrolls e h n rest stop =
+    let same : operators e + n ≡ n = omega (arith, operand_counts e h) in
+    ap (λ o. and_then o (chain term (operators e + n))) (term_complete e h rest stop) ∙ ap (λ n. chain term n e rest) same
+
+two_unrolls : (op : Op2) (a b : Expr) → Unrolls a → Unrolls b → Unrolls (expr.Two op a b)
+two_unrolls op a b unroll_a unroll_b h n rest stop =
+    let holds = and_parts (is_sum a) (is_operand b) (sym (two_stands op a b) ∙ h) in
+    let after = token.Sign (sign_of op) ∷ (spelled b ++ rest) in
+    let same : operators (expr.Two op a b) + n ≡ operators a + suc n = omega (arith, operators-Two op a b, operand_counts b holds.1) in
+    ap (λ l. and_then (term l) (chain term (operators (expr.Two op a b) + n))) (two_text op a b rest)
+    ∙ (ap (λ n. and_then (term (spelled a ++ after)) (chain term n)) same
+    ∙ (unroll_a holds.0 (suc n) after (operator_no_dot op (spelled b ++ rest))
+    ∙ chain_turn term (suc n) n a b after rest op refl (operator_next op (spelled b ++ rest)) (term_complete b holds.1 rest stop)))
+
+unrolls : (e : Expr) → Unrolls e
+unrolls e =
+    induct Unrolls
+      (λ n h. operand_unrolls (expr.Number n) (stands-Number n 10))
+      (λ w h. operand_unrolls (expr.Word w) (stands-Word w 10 ∙ (sym (stands-Word w 9) ∙ h)))
+      (λ p f h. operand_unrolls (expr.Field p f) (stands-Field p f 10 ∙ (sym (stands-Field p f 9) ∙ h)))
+      two_unrolls
+      e
+
+-- the loosest level that has operators is theirs
+any_level : (e : Expr) → stands e 1 ≡ is_sum e
+any_level e =
+    induct (λ e. stands e 1 ≡ is_sum e)
+      (λ n. stands-Number n 1 ∙ sym (stands-Number n 9))
+      (λ w. stands-Word w 1 ∙ sym (stands-Word w 9))
+      (λ p f. stands-Field p f 1 ∙ sym (stands-Field p f 9))
+      any_two
+      e
+  where
+    any_two : (op : Op2) (a b : Expr) → stands a 1 ≡ is_sum a → stands b 1 ≡ is_sum b → stands (expr.Two op a b) 1 ≡ is_sum (expr.Two op a b)
+    any_two Add a b k l = stands-Two Add a b 1 ∙ sym (stands-Two Add a b 9)
+    any_two Sub a b k l = stands-Two Sub a b 1 ∙ sym (stands-Two Sub a b 9)
+
+-- the right side of an assignment
+abbrev is_value : Expr → Bool
+is_value e = stands e 1 && nat_le (operators e) 32
+
+-- neither a dot nor an operator comes next
+abbrev ends_value : List Token → Bool
+ends_value rest = no_dot rest && not (is_some (next_operator rest))
+
+value_sound : (tokens : List Token) (first : Expr) (middle : List Token) → Front (By spelled is_operand) tokens first middle → (o : Outcome Expr) → Tails 32 first middle o → Fronts (By spelled is_value) tokens o
+value_sound tokens first middle f (Ok r) t = record {
+  used = f.used ++ t.used;
+  parts = f.parts ∙ (ap (λ l. f.used ++ l) t.parts ∙ sym (append_assoc f.used t.used r.1));
+  form = record {
+    text = ap (λ l. l ++ t.used) f.form.text ∙ sym t.text;
+    holds = and_from (stands r.0 1) (nat_le (operators r.0) 32) (any_level r.0 ∙ t.holds) (le-leb (operators r.0) 32 (omega (arith, t.count, operand_counts first f.form.holds)));
+  };
+}
+value_sound tokens first middle f (Err rest) t = tt
+
+expression_sound : (tokens : List Token) → Named tokens → (o : Outcome Expr) → Fronts (By spelled is_operand) tokens o → Fronts (By spelled is_value) tokens (and_then o (chain term 32))
+expression_sound tokens named (Ok r) f =
+    value_sound tokens r.0 r.1 f (chain term 32 r.0 r.1) (chain_sound 32 r.0 r.1 (operand_is_sum r.0 f.form.holds) (named_rest tokens f.used r.1 f.parts named))
+expression_sound tokens named (Err rest) f = tt
+
+expression_complete : (e : Expr) (rest : List Token) → is_value e ≡ true → ends_value rest ≡ true → and_then (term (spelled e ++ rest)) (chain term 32) ≡ Ok (e, rest)
+expression_complete e rest h stop =
+    let holds = and_parts (stands e 1) (nat_le (operators e) 32) h in
+    let few = leb-true (operators e) 32 holds.1 in
+    let stops = and_parts (no_dot rest) (not (is_some (next_operator rest))) stop in
+    let same : 32 ≡ operators e + (32 - operators e) = omega (arith, few) in
+    ap (λ n. and_then (term (spelled e ++ rest)) (chain term n)) same
+    ∙ (unrolls e (sym (any_level e) ∙ holds.0) (32 - operators e) rest stops.0
+    ∙ chain_ends (32 - operators e) e rest (no_operator (next_operator rest) stops.1))
+  where
+    no_operator : (o : Option Op2) → not (is_some o) ≡ true → o ≡ None
+    no_operator None h = refl
+    no_operator (Some op) h = cc
+
+exact_expression : Exact expression (By spelled is_value) ends_value
+unfolding expression
+exact_expression = record {
+  sound = λ tokens named. expression_sound tokens named (term tokens) (exact_term.sound tokens named);
+  complete = λ used rest e h stop. ap (λ l. and_then (term (l ++ rest)) (chain term 32)) h.text ∙ expression_complete e rest h.holds stop;
+}
+
+-- ---- statements
+
+-- two pieces in other words
+join : (used front back first second : List Token) → used ≡ front ++ back → front ≡ first → back ≡ second → used ≡ first ++ second
+join used front back first second parts is_first is_second =
+    parts ∙ (ap (λ l. l ++ back) is_first ∙ ap (λ l. first ++ l) is_second)
+
+abbrev StatementForm : List Token → Stmt → Type 0
+StatementForm = Then (By target_tokens is_target) (λ to. Then (IsSign signs.Assign) (λ _. Then (By spelled is_value) (λ value. Image (λ _. stmt.Set to value) (IsSign signs.Semicolon))))
+
+statement_to : (used : List Token) (x : Stmt) → StatementForm used x → By stmt_tokens is_stmt used x
+statement_to used x h =
+    let value = h.second.second in
+    record {
+      text = join used _ _ _ _ h.parts h.first.text (join _ _ _ _ _ h.second.parts h.second.first (join _ _ _ _ _ value.parts value.first.text value.second.form))
+        ∙ (sym (append_assoc (target_tokens h.value) (token.Sign signs.Assign ∷ spelled value.value) (token.Sign signs.Semicolon ∷ [])) ∙ ap stmt_tokens (sym value.second.is));
+      holds = ap is_stmt value.second.is ∙ and_from (is_target h.value) (is_value value.value) h.first.holds value.first.holds;
+    }
+
+statement_from : (used : List Token) (x : Stmt) → By stmt_tokens is_stmt used x → StatementForm used x
+statement_from used (stmt.Set t e) h =
+    let holds = and_parts (is_target t) (is_value e) h.holds in
+    record {
+      value = t;
+      front = target_tokens t;
+      back = token.Sign signs.Assign ∷ (spelled e ++ (token.Sign signs.Semicolon ∷ []));
+      parts = h.text ∙ append_assoc (target_tokens t) (token.Sign signs.Assign ∷ spelled e) (token.Sign signs.Semicolon ∷ []);
+      first = record { text = refl; holds = holds.0 };
+      second = record {
+        value = tt;
+        front = token.Sign signs.Assign ∷ [];
+        back = spelled e ++ (token.Sign signs.Semicolon ∷ []);
+        parts = refl;
+        first = refl;
+        second = record {
+          value = e;
+          front = spelled e;
+          back = token.Sign signs.Semicolon ∷ [];
+          parts = refl;
+          first = record { text = refl; holds = holds.1 };
+          second = record { value = tt; form = refl; is = refl };
+        };
+      };
+    }
+
+exact_statement : Exact statement (By stmt_tokens is_stmt) anything
+unfolding statement
+exact_statement =
+    exact_as (By stmt_tokens is_stmt)
+      (exact_then exact_written
+        (λ to. exact_next (exact_sign signs.Assign)
+          (λ _. exact_then exact_expression
+            (λ value. exact_map (λ _. stmt.Set to value) (exact_sign signs.Semicolon))
+            (λ value used rest y h stop. subst (λ l. ends_value (l ++ rest) ≡ true) (sym h.form) refl)))
+        (λ to used rest y h stop. subst (λ l. no_dot (l ++ rest) ≡ true) (sym (h.parts ∙ ap (λ l. l ++ h.back) h.first)) refl))
+      statement_to
+      statement_from
+
+statement_begins : (x : Stmt) (rest : List Token) → sees_name (stmt_tokens x ++ rest) ≡ true
+statement_begins (stmt.Set (target.Word w) e) rest = refl
+statement_begins (stmt.Set (target.Field p f) e) rest = refl
+
+statement_long : (x : Stmt) → 1 ≤ length (stmt_tokens x)
+statement_long (stmt.Set (target.Word w) e) = omega arith
+statement_long (stmt.Set (target.Field p f) e) = omega arith
+
+exact_statements : Exact statements (By (flat_map stmt_tokens) (list_all is_stmt)) (λ rest. not (sees_name rest))
+unfolding statements
+exact_statements = exact_list stmt_tokens is_stmt sees_name statement exact_statement statement_begins statement_long
+
+-- ---- declarations
+
+exact_declared_name : Exact declared_name (By declaration is_name) anything
+unfolding declared_name
+exact_declared_name =
+    exact_as (By declaration is_name)
+      (exact_next (exact_keyword keywords.Int) (λ _. exact_next exact_name (λ w. exact_map (λ _. w) (exact_sign signs.Semicolon))))
+      (λ used x h. record {
+        text = join used _ _ _ _ h.parts h.first (join _ _ _ _ _ h.second.parts h.second.first.text h.second.second.form) ∙ ap declaration (sym h.second.second.is);
+        holds = ap is_name h.second.second.is ∙ h.second.first.holds;
+      })
+      (λ used w h. record {
+        value = tt;
+        front = token.Keyword keywords.Int ∷ [];
+        back = token.Name w ∷ token.Sign signs.Semicolon ∷ [];
+        parts = h.text;
+        first = refl;
+        second = record {
+          value = w;
+          front = token.Name w ∷ [];
+          back = token.Sign signs.Semicolon ∷ [];
+          parts = refl;
+          first = record { text = refl; holds = h.holds };
+          second = record { value = tt; form = refl; is = refl };
+        };
+      })
+
+abbrev no_declaration : List Token → Bool
+no_declaration rest = not (sees_keyword keywords.Int rest)
+
+exact_fields : Exact fields (By (flat_map declaration) (list_all is_name)) no_declaration
+unfolding fields
+exact_fields = exact_list declaration is_name (sees_keyword keywords.Int) declared_name exact_declared_name (λ w rest. refl) (λ w. omega arith)
+
+register_from : (used : List Token) (x : Item) → By item_tokens is_item used x → Image (λ w. item.Array w None Absent) (By declaration is_name) used x
+register_from used (item.Array w None Absent) h = record { value = w; form = record { text = h.text; holds = h.holds }; is = refl }
+register_from used (item.Array w (Some size) Absent) h = let no = h.holds in cc
+
+exact_register : Exact register (By item_tokens is_item) anything
+unfolding register
+exact_register =
+    exact_as (By item_tokens is_item)
+      (exact_map (λ w. item.Array w None Absent) exact_declared_name)
+      (λ used x h. record { text = h.form.text ∙ ap item_tokens (sym h.is); holds = ap is_item h.is ∙ h.form.holds })
+      register_from
+
+exact_items : Exact items (By (flat_map item_tokens) (list_all is_item)) no_declaration
+unfolding items
+exact_items = exact_list item_tokens is_item (sees_keyword keywords.Int) register exact_register (λ x rest. refl) (λ x. omega arith)
+
+exact_packet : Exact packet (By packet_tokens is_packet) anything
+unfolding packet
+exact_packet =
+    exact_as (By packet_tokens is_packet)
+      (exact_next (exact_keyword keywords.Struct)
+        (λ _. exact_next exact_name
+          (λ w. exact_next (exact_sign signs.OpenCurly)
+            (λ _. exact_then exact_fields
+              (λ names. exact_next (exact_sign signs.CloseCurly) (λ _. exact_map (λ _. record { name = w; fields = names }) (exact_sign signs.Semicolon)))
+              (λ names used rest y h stop. subst (λ l. no_declaration (l ++ rest) ≡ true) (sym (h.parts ∙ ap (λ l. l ++ h.back) h.first)) refl)))))
+      (λ used x h.
+        let called = h.second in
+        let opened = called.second in
+        let held = opened.second in
+        let closed = held.second in
+        record {
+          text = join used _ _ _ _ h.parts h.first (join _ _ _ _ _ called.parts called.first.text (join _ _ _ _ _ opened.parts opened.first (join _ _ _ _ _ held.parts held.first.text (join _ _ _ _ _ closed.parts closed.first closed.second.form))))
+            ∙ ap packet_tokens (sym closed.second.is);
+          holds = ap is_packet closed.second.is ∙ and_from (is_name called.value) (list_all is_name held.value) called.first.holds held.first.holds;
+        })
+      (λ used x h.
+        let holds = and_parts (is_name x.name) (list_all is_name x.fields) h.holds in
+        let closing = token.Sign signs.CloseCurly ∷ token.Sign signs.Semicolon ∷ [] in
+        record {
+          value = tt;
+          front = token.Keyword keywords.Struct ∷ [];
+          back = token.Name x.name ∷ token.Sign signs.OpenCurly ∷ (flat_map declaration x.fields ++ closing);
+          parts = h.text;
+          first = refl;
+          second = record {
+            value = x.name;
+            front = token.Name x.name ∷ [];
+            back = token.Sign signs.OpenCurly ∷ (flat_map declaration x.fields ++ closing);
+            parts = refl;
+            first = record { text = refl; holds = holds.0 };
+            second = record {
+              value = tt;
+              front = token.Sign signs.OpenCurly ∷ [];
+              back = flat_map declaration x.fields ++ closing;
+              parts = refl;
+              first = refl;
+              second = record {
+                value = x.fields;
+                front = flat_map declaration x.fields;
+                back = closing;
+                parts = refl;
+                first = record { text = refl; holds = holds.1 };
+                second = record {
+                  value = tt;
+                  front = token.Sign signs.CloseCurly ∷ [];
+                  back = token.Sign signs.Semicolon ∷ [];
+                  parts = refl;
+                  first = refl;
+                  second = record { value = tt; form = refl; is = refl };
+                };
+              };
+            };
+          };
+        })
