@@ -1,3 +1,4 @@
 pub mod Turns
 pub mod Exact
 pub mod Phrases
+pub mod Deciding

@@ -4,7 +4,7 @@ use Rattle.mp5_words.specs.declared.op.Op2.{Op2}
 use Rattle.domino_tree.specs.declared.token.Token.{Token}
 use Rattle.domino_tree.specs.declared.expr.Expr.{Expr}
 use Rattle.domino_tree.specs.declared.expr.Expr.TheVariants as expr
-use Rattle.std.specs.Result.{IsErrAnd}
+use Rattle.std.specs.Result.{IsErrAnd, IsErrOf}
 use Rattle.domino_syntax.specs.declared.fault.TextFault.{TextFault}
 use Rattle.domino_syntax.specs.declared.fault.TextFault.TheVariants as fault
 use Rattle.domino_syntax.specs.Reading.{Parser, Outcome, Reads, and_then, repeat, next_operator, by_operator, chain}
@@ -32,3 +32,9 @@ passes_on read whole fault.NotYet (Err f) rest is step was =
     let P : TextFault → Type 0 = λ f. Reads whole (Err f) rest in subst P (sym is) (step was)
 passes_on read whole fault.NoMemory (Err f) rest is step was =
     let P : TextFault → Type 0 = λ f. Reads whole (Err f) rest in subst P (sym is) tt
+
+-- where `?` hands on that a text isn't read, the parser refused
+pub refusal_from : {A B : Type 0} (read : Outcome A) (e : TextFault) (result : Result B TextFault) (rest : List Token) → IsErrAnd result (λ f. f ≡ e) → Reads read (Err e) rest → IsErrOf result fault.NotYet → read ≡ Err rest
+refusal_from read e (Ok x) rest is was said = absurd is
+refusal_from read fault.NotYet (Err f) rest is was said = was
+refusal_from read fault.NoMemory (Err f) rest is was said = cc

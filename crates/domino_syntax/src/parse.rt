@@ -1,13 +1,18 @@
 //! The parser: one function for each form of the grammar.
 
-ghost use Rattle.std.specs.Prelude.{◌≡◌, length, IfOk};
+ghost use Rattle.std.specs.Prelude.{◌≡◌, List, IfOk, true};
+ghost use Rattle.std.specs.List.{list_all};
+ghost use Rattle.std.specs.Result.{IsErrOf};
+ghost use Rattle.domino_tree.specs.declared.token.Token.{Token};
+ghost use Rattle.domino_tree.specs.declared.program.Program.{Program};
+ghost use Rattle.domino_tree.specs.Derives.{Derives};
 ghost use Rattle.domino_tree.specs.declared.expr.Expr.TheVariants as expr;
 ghost use Rattle.domino_syntax.specs.Reading as spec;
-ghost use Rattle.domino_syntax.specs.Reading.{Reads};
+ghost use Rattle.domino_syntax.specs.Reading.{Reads, is_token};
 
 use crate::fault::TextFault;
 use crate::reader::Reader;
-use domino_tree::{Expr, Function, Item, Keyword, PacketDecl, Sign, Start, Stmt, Target, Token};
+use domino_tree::{Expr, Function, Item, Keyword, PacketDecl, Program, Sign, Start, Stmt, Target, Token};
 use mp5_words::{Name, Op2};
 use sqlite_items::{Boxed, Items};
 use std::alloc::{AllocError, Global};
@@ -227,4 +232,29 @@ fn parts(alloc: Global, reader: &mut Reader<'_>) -> Result<Parts, TextFault>
     let function = function(alloc, reader)?;
     reader.end()?;
     Ok((before, packet, after, function))
+}
+
+/// The program that the grammar derives from the tokens.
+pub(crate) fn program(alloc: Global, tokens: &[Token]) -> Result<Program, TextFault>
+    // Each name among the tokens is one.
+    requires { list_all is_token tokens.now ≡ true }
+    // What is read is the program that the grammar derives.
+    ensures read { IfOk result (λ program. Derives tokens.now program) }
+    // Tokens are refused only where they have no program, or memory ran out.
+    ensures not_yet { IsErrOf result TextFault.NotYet
+        → (program : Program) → ¬ Derives tokens.now program }
+    // No token list derives two programs.
+    ensures one_tree { (tokens : List Token) (p q : Program)
+        → Derives tokens p
+        → Derives tokens q
+        → p ≡ q }
+{
+    let mut reader = Reader::new(tokens);
+    let (before, packet, after, function) = parts(alloc, &mut reader)?;
+    Ok(Program {
+        before,
+        packet,
+        after,
+        function,
+    })
 }

@@ -11,6 +11,7 @@ use std::alloc::{AllocError, Global};
 use std::marker::Model;
 
 /// The tokens that are left to read, seen as a list.
+#[derive(Drop)]
 pub struct Reader<'a> {
     rest: &'a [Token],
 }
