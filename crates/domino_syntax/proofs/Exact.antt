@@ -7,7 +7,8 @@ use Rattle.domino_syntax.proofs.Turns.{repeat_turn}
 use Rattle.std.specs.List.{list_all, flat_map}
 use Rattle.std.proofs.lemmas.List.Folds.{list_all-append}
 use Rattle.domino_tree.specs.declared.token.Token.{Token}
-use Rattle.domino_syntax.specs.Reading.{is_token, Outcome, Parser, and_then, ◌>>=◌, pure, repeat, all_of}
+use Rattle.domino_syntax.specs.Tokens.{is_token}
+use Rattle.domino_syntax.specs.Reading.{Outcome, Parser, and_then, ◌>>=◌, pure, repeat, all_of}
 
 -- each name in the list is one
 abbrev pub Named : List Token → Type 0

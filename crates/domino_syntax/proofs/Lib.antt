@@ -1,3 +1,4 @@
+pub mod LexLemmas
 pub mod Turns
 pub mod Exact
 pub mod Phrases

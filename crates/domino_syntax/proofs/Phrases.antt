@@ -29,7 +29,8 @@ use Rattle.domino_tree.specs.declared.program.Stmt.TheVariants as stmt
 use Rattle.domino_tree.specs.declared.program.Function.{Function}
 use Rattle.domino_tree.specs.Grammar.{is_name, sign_of, level, spelled, stands, operators, target_tokens, is_target, stmt_tokens, is_stmt, declaration, item_tokens, is_item, packet_tokens, is_packet, function_tokens, is_function, program_tokens, is_program}
 use Rattle.domino_tree.proofs.ExprLemmas.{spelled-Number, spelled-Word, spelled-Field, spelled-Two, stands-Number, stands-Word, stands-Field, stands-Two, operators-Number, operators-Word, operators-Field, operators-Two, induct}
-use Rattle.domino_syntax.specs.Reading.{is_token, Outcome, Parser, and_then, operator_of, ◌>>=◌, pure, all_of, same_sign, same_keyword, sees_sign, sees_keyword, sees_name, sign, keyword, name, eat_sign, eat_number, end, field, reference, expr_of, number_or, name_or_field, term, next_operator, by_operator, chain, max_operators, expression, target_of, written, statement, statements, declared_name, fields, register, items, packet, head, function, parts}
+use Rattle.domino_syntax.specs.Tokens.{is_token}
+use Rattle.domino_syntax.specs.Reading.{Outcome, Parser, and_then, operator_of, ◌>>=◌, pure, all_of, same_sign, same_keyword, sees_sign, sees_keyword, sees_name, sign, keyword, name, eat_sign, eat_number, end, field, reference, expr_of, number_or, name_or_field, term, next_operator, by_operator, chain, max_operators, expression, target_of, written, statement, statements, declared_name, fields, register, items, packet, head, function, parts}
 use Rattle.domino_syntax.proofs.Turns.{chain_turn}
 use Rattle.domino_syntax.proofs.Exact.{Named, Front, Fronts, Exact, anything, exact_as, Then, named_rest, exact_then, exact_next, Image, exact_map, By, exact_list, not_true}
 

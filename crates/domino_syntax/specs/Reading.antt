@@ -23,16 +23,8 @@ use Rattle.domino_tree.specs.declared.program.Target.TheVariants as target
 use Rattle.domino_tree.specs.declared.program.Stmt.{Stmt}
 use Rattle.domino_tree.specs.declared.program.Stmt.TheVariants as stmt
 use Rattle.domino_tree.specs.declared.program.Function.{Function}
-use Rattle.domino_tree.specs.Grammar.{is_name}
 use Rattle.domino_syntax.specs.declared.fault.TextFault.{TextFault}
 use Rattle.domino_syntax.specs.declared.fault.TextFault.TheVariants as fault
-
--- a name token holds a name; each other token is one
-abbrev pub is_token : Token → Bool
-is_token (token.Name w) = is_name w
-is_token (token.Keyword k) = true
-is_token (token.Number n) = true
-is_token (token.Sign s) = true
 
 -- what was read and the tokens after it, or the list from the refused token on
 abbrev pub Outcome : Type 0 → Type 0

@@ -1,4 +1,6 @@
-use std::alloc::AllocError;
+ghost use Rattle.std.specs.Prelude.{◌≡◌};
+
+use std::alloc::{AllocError, AllocFailed};
 use thiserror::Error;
 
 /// Why a text isn't read.
@@ -13,12 +15,21 @@ pub enum TextFault {
 }
 
 impl From<AllocError> for TextFault {
-    ghost use Rattle.std.specs.Prelude.{◌≡◌};
     ghost use Rattle.domino_syntax.specs.declared.fault.TextFault.TheVariants.{NoMemory};
 
     ghost from_gives = { λ _ e. e ≡ NoMemory };
 
-    fn from(_: AllocError) -> TextFault {
+    fn from(_error: AllocError) -> TextFault {
+        TextFault::NoMemory
+    }
+}
+
+impl<T: Drop> From<AllocFailed<T>> for TextFault {
+    ghost use Rattle.domino_syntax.specs.declared.fault.TextFault.TheVariants.{NoMemory};
+
+    ghost from_gives = { λ _ e. e ≡ NoMemory };
+
+    fn from(_error: AllocFailed<T>) -> TextFault {
         TextFault::NoMemory
     }
 }

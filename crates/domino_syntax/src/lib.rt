@@ -5,7 +5,10 @@
 #![tactic(auto)]
 
 mod fault;
+mod lex;
 mod parse;
+mod read;
 mod reader;
 
 pub use fault::TextFault;
+pub use read::read_program;

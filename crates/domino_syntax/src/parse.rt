@@ -8,7 +8,8 @@ ghost use Rattle.domino_tree.specs.declared.program.Program.{Program};
 ghost use Rattle.domino_tree.specs.Derives.{Derives};
 ghost use Rattle.domino_tree.specs.declared.expr.Expr.TheVariants as expr;
 ghost use Rattle.domino_syntax.specs.Reading as spec;
-ghost use Rattle.domino_syntax.specs.Reading.{Reads, is_token};
+ghost use Rattle.domino_syntax.specs.Reading.{Reads};
+ghost use Rattle.domino_syntax.specs.Tokens.{is_token};
 
 use crate::fault::TextFault;
 use crate::reader::Reader;

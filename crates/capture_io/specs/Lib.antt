@@ -1,0 +1,2 @@
+pub mod ClassicCapture
+pub mod Header

@@ -1,0 +1,9 @@
+//! Classic captures: the bytes of a capture file as one list of field values per record.
+//!
+//! `read_capture` takes the bytes and the names of a program's fields, and gives a `Capture`, seen as
+//! the list of the packets' fields. Its contract says which bytes are a capture and what each field is.
+#![tactic(auto)]
+
+mod fault;
+
+pub use fault::CaptureFault;

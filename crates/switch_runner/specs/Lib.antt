@@ -1,0 +1,12 @@
+pub use Rattle.domino_tree.specs.Meaning
+pub use Rattle.domino_syntax.specs.ThinText
+pub use Rattle.capture_io.specs.ClassicCapture
+pub use Rattle.capture_io.specs.Header
+pub mod ThinProgram
+pub mod Outside
+pub mod Faults
+pub mod Writing
+pub mod CommandLine
+pub mod Report
+pub mod Causes
+pub mod Transfer

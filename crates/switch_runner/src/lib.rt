@@ -1,0 +1,14 @@
+//! The outside of the switch, and the call that the program makes.
+//!
+//! `Store` and `Sink` are the traits through which files are read and output is written, with doubles in
+//! memory and the real edge. `switch_top` takes the words of the command line, a store and two sinks, and
+//! answers a `Status`; its contract is what the program promises.
+#![tactic(auto)]
+
+mod block;
+mod outside;
+mod status;
+mod transfer;
+
+pub use outside::{Failed, Sink, Store, StoreFault};
+pub use status::{ProgramFault, Status};

@@ -1,0 +1,32 @@
+use capture_io::CaptureFault;
+use thiserror::Error;
+
+/// Why a program isn't accepted.
+#[derive(Debug, Drop, Error)]
+pub enum ProgramFault {
+    /// The text isn't a program that is accepted yet.
+    #[error("the text is no program that is accepted")]
+    NotYet,
+    /// Memory ran out.
+    #[error("out of memory")]
+    NoMemory,
+}
+
+/// How a call of the program ends.
+#[derive(Debug, Drop)]
+pub enum Status {
+    /// All was read, run and written.
+    Done,
+    /// The command doesn't take the words.
+    Words,
+    /// The program isn't accepted.
+    Program(ProgramFault),
+    /// The capture isn't read.
+    Capture(CaptureFault),
+    /// A file could not be read.
+    ReadFault,
+    /// The output could not be written.
+    WriteFault,
+    /// Memory ran out.
+    NoMemory,
+}
