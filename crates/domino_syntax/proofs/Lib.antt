@@ -1,1 +1,5 @@
 pub mod LexLemmas
+pub mod Turns
+pub mod Exact
+pub mod Phrases
+pub mod Deciding

@@ -4,3 +4,4 @@ pub use Rattle.domino_tree.specs.Derives
 pub use Rattle.domino_tree.specs.Meaning
 pub mod Tokens
 pub mod ThinText
+pub mod Reading

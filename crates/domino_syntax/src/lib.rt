@@ -6,5 +6,9 @@
 
 mod fault;
 mod lex;
+mod parse;
+mod read;
+mod reader;
 
 pub use fault::TextFault;
+pub use read::read_program;
