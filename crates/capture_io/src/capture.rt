@@ -21,7 +21,8 @@ impl Model for Capture {
 
     ghost view = { λ c. rows c.packets c.width c.words.items };
 
-    ghost invariant = { λ c. (vec_len c.words ≡ c.packets * c.width) × (c.packets ≤ 262144) × (c.width ≤ 32) };
+    ghost invariant = { λ c.
+        (vec_len c.words ≡ c.packets * c.width) × (c.packets ≤ 262144) × (c.width ≤ 32) };
 }
 
 impl Capture {

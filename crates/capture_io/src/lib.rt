@@ -14,3 +14,6 @@ mod source;
 pub use capture::Capture;
 pub use fault::CaptureFault;
 pub use reading::read_capture;
+
+#[cfg(test)]
+mod tests;
