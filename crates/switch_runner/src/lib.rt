@@ -5,6 +5,8 @@
 //! answers a `Status`; its contract is what the program promises.
 #![tactic(auto)]
 
+mod evaluate;
+mod numbered;
 mod outside;
 mod status;
 
