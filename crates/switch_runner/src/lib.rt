@@ -6,6 +6,7 @@
 #![tactic(auto)]
 
 mod evaluate;
+mod names;
 mod numbered;
 mod outside;
 mod status;
