@@ -6,3 +6,4 @@ pub mod ThinProgram
 pub mod Outside
 pub mod Faults
 pub mod Numbered
+pub mod Checks

@@ -5,6 +5,7 @@
 //! answers a `Status`; its contract is what the program promises.
 #![tactic(auto)]
 
+mod checks;
 mod evaluate;
 mod names;
 mod numbered;

@@ -68,15 +68,18 @@ pub(crate) fn copy_name(alloc: Global, name: &Name) -> Result<Name, AllocError>
     Ok(Name::new(Vec::from_slice(alloc, name.bytes())?))
 }
 
-/// Names with the same bytes.
-pub(crate) fn copy_names(alloc: Global, names: &[Name]) -> Result<Vec<Name>, AllocError>
-    ensures { IfOk result (λ copies. copies.items ≡ names.now) }
+/// Adds copies of names to a list of names.
+pub(crate) fn push_names(
+    alloc: Global,
+    names: &mut Vec<Name>,
+    more: &[Name],
+) -> Result<(), AllocError>
+    ensures { OnOk result (names.new.items ≡ names.old.items ++ more.now) }
 {
-    let mut copies = Vec::with_capacity(alloc, names.len())?;
-    for name in names {
-        copies.push(copy_name(alloc, name)?)?;
+    for name in more {
+        names.push(copy_name(alloc, name)?)?;
     }
-    Ok(copies)
+    Ok(())
 }
 
 /// Adds the names of the declarations to a list of names.
