@@ -10,6 +10,7 @@ mod evaluate;
 mod names;
 mod numbered;
 mod outside;
+mod resolve;
 mod status;
 
 pub use outside::{Failed, Sink, Store, StoreFault};
