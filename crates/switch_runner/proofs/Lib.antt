@@ -1,1 +1,2 @@
 pub mod NumberedRun
+pub mod PassesChecks

@@ -119,3 +119,28 @@ fn number_body(
     }
     Ok(body)
 }
+
+/// Checks the names of a program, and numbers them.
+pub(crate) fn resolve(alloc: Global, program: &Program) -> Result<Resolved, ProgramFault>
+    ensures fields { IfOk result (λ r. r.fields ≡ (names_of program.now).fields) }
+    ensures cells { IfOk result (λ r. r.cells.items ≡ (names_of program.now).cells) }
+    ensures body { IfOk result (λ r. (s : State) → run_body r.body.items s ≡ exec (names_of program.now) program.now.function.body s) }
+    ensures checked { OnOk result (passes_checks program.now ≡ true) }
+    ensures not_yet { IsErrOf result ProgramFault.NotYet → passes_checks program.now ≡ false }
+{
+    let cells = cell_names(alloc, program)?;
+    if !are_few(program, &cells) {
+        return Err(ProgramFault::NotYet);
+    }
+    if !are_declared(alloc, program, &cells)? {
+        return Err(ProgramFault::NotYet);
+    }
+    let body = number_body(alloc, program, &cells)?;
+    let mut fields = Vec::new(alloc);
+    push_names(alloc, &mut fields, program.packet.fields.as_slice())?;
+    Ok(Resolved {
+        fields: FieldNames::new(fields),
+        cells,
+        body,
+    })
+}
