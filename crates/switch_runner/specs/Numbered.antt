@@ -1,5 +1,6 @@
 -- What a numbered program means. Fields and registers are numbers, in order of declaration.
-use Rattle.std.specs.Prelude.{ℕ, ℤ, List, [], ◌∷◌, slice_set}
+use Rattle.std.specs.Prelude.{◌≡◌, ℕ, ℤ, List, [], ◌∷◌, slice_set}
+use Rattle.std.specs.List.{flat_map}
 use Rattle.mp5_words.specs.Words.{op2}
 use Rattle.domino_tree.specs.Meaning.{State, Outcome, word_at}
 use Rattle.switch_runner.specs.declared.numbered.Value.{Value, fold-Value}
@@ -38,3 +39,8 @@ run_packets body cells (header ∷ headers) =
     let after = run_body body (state_of header cells) in
     let rest = run_packets body after.cells headers in
     record { packets = after.fields ∷ rest.packets; cells = rest.cells }
+
+-- a run's packets, one after another, and its registers at the end
+pub record IsEnd (run : Outcome) (words cells : List ℤ) : Type 0 where
+  pub packets : words ≡ flat_map (λ p. p) run.packets
+  pub registers : cells ≡ run.cells

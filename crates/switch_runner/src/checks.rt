@@ -6,7 +6,9 @@ ghost use Rattle.domino_tree.specs.Meaning.{names_of};
 ghost use Rattle.switch_runner.specs.Checks.{are_few, are_declared};
 ghost use Rattle.switch_runner.specs.ThinProgram.{is_among, later_fields, other_names};
 
-use crate::names::{are_distinct, are_same, copy_name, is_text, push_item_names, push_names, push_text};
+use crate::names::{
+    are_distinct, are_same, copy_name, is_text, push_item_names, push_names, push_text,
+};
 use domino_tree::Program;
 use mp5_words::Name;
 use std::alloc::{AllocError, Global};
@@ -82,8 +84,10 @@ pub(crate) fn are_declared(
 {
     let others = other_names(alloc, program, cells)?;
     let fields = program.packet.fields.as_slice();
-    Ok(are_distinct(fields)
-        && are_distinct(&others)
-        && are_same(&program.function.of, &program.packet.name)
-        && has_no_later_field(fields))
+    Ok(
+        are_distinct(fields)
+            && are_distinct(&others)
+            && are_same(&program.function.of, &program.packet.name)
+            && has_no_later_field(fields),
+    )
 }

@@ -11,6 +11,7 @@ mod names;
 mod numbered;
 mod outside;
 mod resolve;
+mod run;
 mod status;
 
 pub use outside::{Failed, Sink, Store, StoreFault};

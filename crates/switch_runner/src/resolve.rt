@@ -66,11 +66,7 @@ fn number_value(
         Expr::Two(op, a, b) => {
             let a = number_value(alloc, program, cells, a.get())?;
             let b = number_value(alloc, program, cells, b.get())?;
-            Ok(Value::Two(
-                *op,
-                Boxed::new(alloc, a)?,
-                Boxed::new(alloc, b)?,
-            ))
+            Ok(Value::Two(*op, Boxed::new(alloc, a)?, Boxed::new(alloc, b)?))
         }
     }
 }

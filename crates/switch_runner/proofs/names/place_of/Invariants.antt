@@ -7,5 +7,5 @@ use Rattle.switch_runner.proofs.names.place_of.Given as goal
 abbrev pub invariant-loop-place : goal.invariant-loop-place
 invariant-loop-place l = record {
   among : is_among (drop l.place l.names) l.name ≡ is_among l.names l.name;
-  place : place_of l.name l.names ≡ l.place + place_of l.name (drop l.place l.names)
+  place : place_of l.name l.names ≡ l.place + place_of l.name (drop l.place l.names);
 }

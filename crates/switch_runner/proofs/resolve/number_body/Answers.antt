@@ -16,5 +16,5 @@ loop-statement-preserved c =
     let pushed : c.push.new.self.items ≡ c.loop-statement.body.items ++ a ∷ [] = c.in_ok-push.ensures.items in
     record {
       run = run_more (names_of p) statements i x c.loop-statement.body.items _ a within c.statement-item.is pushed c.loop-statement.invariant.run numbered.run;
-      named = all_left (is_named_stmt p) statements i x within c.statement-item.is numbered.named c.loop-statement.invariant.named
+      named = all_left (is_named_stmt p) statements i x within c.statement-item.is numbered.named c.loop-statement.invariant.named;
     }

@@ -9,5 +9,5 @@ use Rattle.switch_runner.proofs.resolve.number_body.Given as goal
 abbrev pub invariant-loop-statement : goal.invariant-loop-statement
 invariant-loop-statement l = record {
   run : (s : State) → run_body l.body.items s ≡ exec (names_of l.program) (take l.statement-index l.statements) s;
-  named : list_all (is_named_stmt l.program) (drop l.statement-index l.statements) ≡ list_all (is_named_stmt l.program) l.statements
+  named : list_all (is_named_stmt l.program) (drop l.statement-index l.statements) ≡ list_all (is_named_stmt l.program) l.statements;
 }
