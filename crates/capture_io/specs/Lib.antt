@@ -1,2 +1,5 @@
 pub mod ClassicCapture
 pub mod Header
+pub mod Reading
+pub mod Fields
+pub mod Rows

@@ -4,6 +4,13 @@
 //! the list of the packets' fields. Its contract says which bytes are a capture and what each field is.
 #![tactic(auto)]
 
+mod capture;
 mod fault;
+mod frame;
+mod reading;
+mod record;
+mod source;
 
+pub use capture::Capture;
 pub use fault::CaptureFault;
+pub use reading::read_capture;

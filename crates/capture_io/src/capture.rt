@@ -1,0 +1,45 @@
+//! What was read of a capture.
+
+ghost use Rattle.std.specs.Prelude.{◌≡◌, ◌<◌, ◌≤◌, length, slice_get, Some};
+
+use std::marker::Model;
+
+/// The packets of a capture, seen as the list of their fields' values, in order of arrival.
+#[derive(Debug, Drop)]
+pub struct Capture {
+    pub(crate) words: Vec<i32>,
+    pub(crate) width: u32,
+    pub(crate) packets: u32,
+}
+
+impl Model for Capture {
+    ghost use Rattle.std.specs.Prelude.{List, ℤ, ◌≡◌, ◌≤◌, ◌*◌};
+    ghost use Rattle.std.specs.Vec.{vec_len};
+    ghost use Rattle.capture_io.specs.Rows.{rows};
+
+    ghost Value = { List (List ℤ) };
+
+    ghost view = { λ c. rows c.packets c.width c.words.items };
+
+    ghost invariant = { λ c. (vec_len c.words ≡ c.packets * c.width) × (c.packets ≤ 262144) × (c.width ≤ 32) };
+}
+
+impl Capture {
+    /// How many packets there are.
+    pub fn count(&self) -> u32
+        ensures count { result ≡ length self.now }
+        ensures limit { result ≤ 262144 }
+    {
+        self.packets
+    }
+
+    /// The fields of packet `t`, a word each, in order of declaration.
+    pub fn header(&self, t: u32) -> &[i32]
+        requires { t < length self.now }
+        ensures { slice_get self.now t ≡ Some result.now }
+    {
+        let width = self.width as usize;
+        let start = t as usize * width;
+        &self.words[start..start + width]
+    }
+}
