@@ -1,2 +1,3 @@
 pub mod NumberedRun
 pub mod PassesChecks
+pub mod PacketLengths

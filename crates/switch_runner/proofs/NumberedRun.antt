@@ -1,10 +1,11 @@
 -- One statement more, numbered and not.
-use Rattle.std.proofs.Common.{◌≡◌, ℕ, ◌+◌, ◌<◌, ℤ, Bool, true, ◌&&◌, List, [], ◌∷◌, ◌++◌, length, take, drop, get_or, slice_get, Some, append_assoc, sym, refl, ap, ◌∙◌}
+use Rattle.std.proofs.Common.{◌≡◌, ℕ, pos, map, ◌+◌, ◌<◌, ℤ, Bool, true, ◌&&◌, List, [], ◌∷◌, ◌++◌, length, take, drop, get_or, slice_get, Some, append_assoc, sym, refl, ap, ◌∙◌}
 use Rattle.std.specs.List.{list_all, flat_map}
 use Rattle.std.proofs.lemmas.Option.{slice_get_within, get_or_from_slice_get}
 use Rattle.std.proofs.lemmas.List.{take_more, drop_more}
+use Rattle.domino_tree.specs.declared.program.Program.{Program}
 use Rattle.domino_tree.specs.declared.program.Stmt.{Stmt}
-use Rattle.domino_tree.specs.Meaning.{Names, State, Outcome, step, exec, run_from}
+use Rattle.domino_tree.specs.Meaning.{Names, State, Outcome, names_of, step, exec, run_from, start as start_of, one}
 use Rattle.switch_runner.specs.declared.numbered.Assignment.{Assignment}
 use Rattle.switch_runner.specs.Numbered.{IsEnd, state_of, run_assignment, run_body, run_packets}
 
@@ -97,20 +98,28 @@ cells_more body headers t header cells whole new_cells there written before =
     ∙ sym (ap (λ l. (run_packets body cells l).cells) (drop_here headers t header there))
     ∙ before
 
--- what a numbered run that starts with zeros ends with, by what the statements do
+-- what a numbered run that starts with zeros ends with, by what the program means
 pub run_end :
-    (body given : List Assignment) (headers : List (List ℤ)) (zeros start words none registers : List ℤ)
-    → given ≡ body
-    → start ≡ zeros
-    → none ≡ []
-    → words ≡ none ++ flat_map (λ p. p) (run_packets given start headers).packets
-    → registers ≡ (run_packets given start headers).cells
-    → (names : Names) (statements : List Stmt)
-    → ((s : State) → run_body body s ≡ exec names statements s)
-    → IsEnd (run_from names statements zeros headers) words registers
-run_end body given headers zeros start words none registers same_body same_start nothing packets cells names statements same =
-    let run : run_packets given start headers ≡ run_from names statements zeros headers = ap (λ b. run_packets b start headers) same_body ∙ ap (λ l. run_packets body l headers) same_start ∙ run_packets-is names statements body same zeros headers in
+  (names : List (List ℕ)) (body given : List Assignment) (headers : List (List ℤ)) (start words none registers : List ℤ)
+  → given ≡ body
+  → start ≡ map (λ _. pos 0) names
+  → none ≡ []
+  → words ≡ none ++ flat_map (λ p. p) (run_packets given start headers).packets
+  → registers ≡ (run_packets given start headers).cells
+  → (program : Program)
+  → names ≡ (names_of program).cells
+  → ((s : State) → run_body body s ≡ exec (names_of program) program.function.body s)
+  → IsEnd (one program headers) words registers
+run_end names body given headers start words none registers same_body zeros nothing packets cells program declared same =
+    let run : run_packets given start headers ≡ one program headers =
+      ap (λ b. run_packets b start headers) same_body
+      ∙ ap (λ l. run_packets body l headers) (zeros ∙ ap (λ (l : List (List ℕ)). map (λ _. pos 0) l) declared)
+      ∙ run_packets-is (names_of program) program.function.body body same (start_of program) headers
+    in
     record {
-      packets = packets ∙ ap (λ l. l ++ flat_map (λ p. p) (run_packets given start headers).packets) nothing ∙ ap (λ (o : Outcome). flat_map (λ p. p) o.packets) run;
-      registers = cells ∙ ap (λ (o : Outcome). o.cells) run;
+      packets =
+        packets
+        ∙ ap (λ l. l ++ flat_map (λ p. p) (run_packets given start headers).packets) nothing
+        ∙ ap (λ (o : Outcome). flat_map (λ p. p) o.packets) run;
+      registers = cells ∙ ap (λ (o : Outcome). o.cells) run
     }

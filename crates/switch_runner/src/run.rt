@@ -1,9 +1,9 @@
 //! The sequential run.
 
-ghost use Rattle.std.specs.Prelude.{◌≡◌, ◌++◌, ℕ, pos, List, map, IfOk, OnOk};
+ghost use Rattle.std.specs.Prelude.{◌≡◌, ◌++◌, pos, map, IfOk, OnOk};
 ghost use Rattle.std.specs.List.{flat_map};
-ghost use Rattle.domino_tree.specs.declared.program.Stmt.{Stmt};
-ghost use Rattle.domino_tree.specs.Meaning.{Names, State, exec, run_from};
+ghost use Rattle.domino_tree.specs.declared.program.Program.{Program};
+ghost use Rattle.domino_tree.specs.Meaning.{State, names_of, exec, one};
 ghost use Rattle.switch_runner.specs.Numbered.{IsEnd, state_of, run_body, run_packets};
 
 use crate::evaluate::execute;
@@ -62,13 +62,13 @@ fn zeros(alloc: Global, names: &[Name]) -> Result<Vec<i32>, AllocError>
 }
 
 /// Runs the transaction on one packet after another, in arrival order, with registers that start at 0.
-/// What the statements do that the body stands for, the run does.
+/// This is the run of each program with these registers whose transaction the body stands for.
 pub(crate) fn run_one(
     alloc: Global,
     resolved: &Resolved,
     capture: &Capture,
 ) -> Result<FinalState, AllocError>
-    ensures { IfOk result (λ end. (names : Names) (statements : List Stmt) → ((s : State) → run_body resolved.now.body.items s ≡ exec names statements s) → IsEnd (run_from names statements (map (λ _. pos 0) resolved.now.cells.items) capture.now) end.packets.items end.cells.items) }
+    ensures { IfOk result (λ end. (program : Program) → resolved.now.cells.items ≡ (names_of program).cells → ((s : State) → run_body resolved.now.body.items s ≡ exec (names_of program) program.function.body s) → IsEnd (one program capture.now) end.packets.items end.cells.items) }
 {
     let mut packets = Vec::new(alloc);
     let mut cells = zeros(alloc, &resolved.cells)?;

@@ -9,10 +9,10 @@ returns c =
     let end = c.in_ok-run_packets.ensures in
     let kept : length c.run_packets.new.cells ≡ c.in_ok-cells.cells.len = omega arith in
     run_end
+    resolved.cells.items
     resolved.body.items
     c.deref-2.result.now
     c.args.capture.now
-    (map (λ _. pos 0) resolved.cells.items)
     c.deref_mut.result.now
     c.run_packets.new.packets.items
     c.new-packets.result.items
