@@ -100,26 +100,26 @@ cells_more body headers t header cells whole new_cells there written before =
 
 -- what a numbered run that starts with zeros ends with, by what the program means
 pub run_end :
-  (names : List (List ℕ)) (body given : List Assignment) (headers : List (List ℤ)) (start words none registers : List ℤ)
-  → given ≡ body
-  → start ≡ map (λ _. pos 0) names
-  → none ≡ []
-  → words ≡ none ++ flat_map (λ p. p) (run_packets given start headers).packets
-  → registers ≡ (run_packets given start headers).cells
-  → (program : Program)
-  → names ≡ (names_of program).cells
-  → ((s : State) → run_body body s ≡ exec (names_of program) program.function.body s)
-  → IsEnd (one program headers) words registers
+    (names : List (List ℕ)) (body given : List Assignment) (headers : List (List ℤ)) (start words none registers : List ℤ)
+    → given ≡ body
+    → start ≡ map (λ _. pos 0) names
+    → none ≡ []
+    → words ≡ none ++ flat_map (λ p. p) (run_packets given start headers).packets
+    → registers ≡ (run_packets given start headers).cells
+    → (program : Program)
+    → names ≡ (names_of program).cells
+    → ((s : State) → run_body body s ≡ exec (names_of program) program.function.body s)
+    → IsEnd (one program headers) words registers
 run_end names body given headers start words none registers same_body zeros nothing packets cells program declared same =
     let run : run_packets given start headers ≡ one program headers =
-      ap (λ b. run_packets b start headers) same_body
-      ∙ ap (λ l. run_packets body l headers) (zeros ∙ ap (λ (l : List (List ℕ)). map (λ _. pos 0) l) declared)
-      ∙ run_packets-is (names_of program) program.function.body body same (start_of program) headers
+    ap (λ b. run_packets b start headers) same_body
+    ∙ ap (λ l. run_packets body l headers) (zeros ∙ ap (λ (l : List (List ℕ)). map (λ _. pos 0) l) declared)
+    ∙ run_packets-is (names_of program) program.function.body body same (start_of program) headers
     in
     record {
       packets =
-        packets
-        ∙ ap (λ l. l ++ flat_map (λ p. p) (run_packets given start headers).packets) nothing
-        ∙ ap (λ (o : Outcome). flat_map (λ p. p) o.packets) run;
-      registers = cells ∙ ap (λ (o : Outcome). o.cells) run
+          packets
+          ∙ ap (λ l. l ++ flat_map (λ p. p) (run_packets given start headers).packets) nothing
+          ∙ ap (λ (o : Outcome). flat_map (λ p. p) o.packets) run;
+      registers = cells ∙ ap (λ (o : Outcome). o.cells) run;
     }

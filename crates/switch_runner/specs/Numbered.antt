@@ -1,5 +1,5 @@
 -- What a numbered program means. Fields and registers are numbers, in order of declaration.
-use Rattle.std.specs.Prelude.{◌≡◌, ℕ, ℤ, List, [], ◌∷◌, slice_set}
+use Rattle.std.specs.Prelude.{◌≡◌, ℤ, List, [], ◌∷◌, slice_set}
 use Rattle.std.specs.List.{flat_map}
 use Rattle.mp5_words.specs.Words.{op2}
 use Rattle.domino_tree.specs.Meaning.{State, Outcome, word_at}

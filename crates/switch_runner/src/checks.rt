@@ -1,6 +1,6 @@
 //! The checks of declarations.
 
-ghost use Rattle.std.specs.Prelude.{◌≡◌, not, IfOk, OnOk};
+ghost use Rattle.std.specs.Prelude.{◌≡◌, not, IfOk};
 ghost use Rattle.std.specs.List.{list_all};
 ghost use Rattle.domino_tree.specs.Meaning.{names_of};
 ghost use Rattle.switch_runner.specs.Checks.{are_few, are_declared};

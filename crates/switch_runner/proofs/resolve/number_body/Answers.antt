@@ -1,4 +1,4 @@
-use Rattle.std.proofs.Common.{◌≡◌, ◌<◌, ◌++◌, [], ◌∷◌, length, rules, arith}
+use Rattle.std.proofs.Common.{◌≡◌, ◌<◌, ◌++◌, [], ◌∷◌, length, arith}
 use Rattle.domino_tree.specs.Meaning.{names_of}
 use Rattle.switch_runner.specs.ThinProgram.{is_named_stmt}
 use Rattle.switch_runner.proofs.NumberedRun.{run_more, all_left}

@@ -1,4 +1,4 @@
-use Rattle.std.proofs.Common.{◌≡◌, true, take, drop}
+use Rattle.std.proofs.Common.{◌≡◌, take, drop}
 use Rattle.std.specs.List.{list_all}
 use Rattle.domino_tree.specs.Meaning.{State, names_of, exec}
 use Rattle.switch_runner.specs.Numbered.{run_body}
