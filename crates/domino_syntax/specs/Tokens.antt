@@ -1,6 +1,6 @@
 -- The tokens of a text: the longest word or the sign at its front, one after another, with white space
 -- between. A text has at most one list of tokens.
-use Rattle.std.specs.Prelude.{ℕ, zero, suc, ◌+◌, ◌==◌, Bool, true, false, ◌&&◌, ◌||◌, if◌then◌else◌, nat_eq, nat_le, List, [], ◌∷◌, length, take, drop, slice_index, codes, pos, Option, Some, None}
+use Rattle.std.specs.Prelude.{ℕ, zero, suc, ◌==◌, Bool, true, false, ◌&&◌, ◌||◌, if◌then◌else◌, nat_eq, nat_le, List, [], ◌∷◌, length, take, drop, slice_index, codes, pos, Option, Some, None}
 use Rattle.std.specs.List.{list_all, prefix_len}
 use Rattle.std.specs.Option.{option_map, option_and_then}
 use Rattle.std.specs.Str.{bytes_eq}
@@ -12,7 +12,7 @@ use Rattle.domino_tree.specs.declared.token.Token.TheVariants as token
 use Rattle.domino_tree.specs.declared.token.Keyword.TheVariants as keyword
 use Rattle.domino_tree.specs.declared.token.Sign.{Sign}
 use Rattle.domino_tree.specs.declared.token.Sign.TheVariants as sign
-use Rattle.domino_tree.specs.Grammar.{is_word_byte}
+use Rattle.domino_tree.specs.Grammar.{is_word_byte, is_name}
 
 -- space, and the bytes 9 to 13
 abbrev pub is_white : ℕ → Bool
@@ -77,3 +77,10 @@ lexed (suc n) (b ∷ bs) = if is_white b then lexed n bs else option_and_then (f
 -- the tokens of a text; none where some byte begins no token
 abbrev pub tokens : List ℕ → Option (List Token)
 tokens text = lexed (length text) text
+
+-- a name token has a name's bytes
+abbrev pub is_token : Token → Bool
+is_token (token.Name w) = is_name w
+is_token (token.Keyword k) = true
+is_token (token.Number n) = true
+is_token (token.Sign s) = true

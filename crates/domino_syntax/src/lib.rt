@@ -5,5 +5,6 @@
 #![tactic(auto)]
 
 mod fault;
+mod lex;
 
 pub use fault::TextFault;

@@ -1,3 +1,5 @@
 pub mod NumberedRun
 pub mod PassesChecks
 pub mod PacketLengths
+pub mod WritingLemmas
+pub mod TransferLemmas

@@ -1,5 +1,5 @@
 -- When a read or a write may fail.
-use Rattle.std.specs.Prelude.{◌≡◌, ◌≤◌, ℕ, Result, IsErrOf, OnErr}
+use Rattle.std.specs.Prelude.{◌≤◌, ℕ, Result, IsErrOf, OnErr}
 use Rattle.switch_runner.specs.Outside.{Rose}
 use Rattle.switch_runner.specs.declared.outside.StoreFault.{StoreFault}
 use Rattle.switch_runner.specs.declared.outside.StoreFault.TheVariants.{Failed as ReadFailed}

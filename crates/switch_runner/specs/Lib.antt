@@ -7,3 +7,8 @@ pub mod Outside
 pub mod Faults
 pub mod Numbered
 pub mod Checks
+pub mod Writing
+pub mod CommandLine
+pub mod Report
+pub mod Causes
+pub mod Transfer

@@ -5,6 +5,7 @@
 //! answers a `Status`; its contract is what the program promises.
 #![tactic(auto)]
 
+mod block;
 mod checks;
 mod evaluate;
 mod names;
@@ -13,6 +14,7 @@ mod outside;
 mod resolve;
 mod run;
 mod status;
+mod transfer;
 
 pub use outside::{Failed, Sink, Store, StoreFault};
 pub use status::{ProgramFault, Status};

@@ -1,0 +1,95 @@
+-- The causes of each answer of the top call.
+use Rattle.std.specs.Prelude.{◌≡◌, ◌⊎◌, ℕ, List, [], codes, Option, IfSome}
+use Rattle.capture_io.specs.declared.fault.CaptureFault.TheVariants as capture
+use Rattle.capture_io.specs.ClassicCapture.{Record, IsCapture}
+use Rattle.capture_io.specs.Header.{headers}
+use Rattle.domino_tree.specs.declared.program.Program.{Program}
+use Rattle.switch_runner.specs.declared.status.ProgramFault.TheVariants as program
+use Rattle.switch_runner.specs.declared.status.Status.{Status}
+use Rattle.switch_runner.specs.declared.status.Status.TheVariants as status
+use Rattle.switch_runner.specs.Outside.{Rose, TookFront, gained}
+use Rattle.switch_runner.specs.Report.{report}
+use Rattle.switch_runner.specs.ThinProgram.{IsAccepted}
+
+-- what a call saw of the outside: what the store tells of the program and of the capture, the counts of
+-- faults of the two names and of the output before and after, and what the output has taken
+pub record Seen : Type 0 where
+  pub text : Option (List ℕ)
+  pub bytes : Option (List ℕ)
+  pub program_before : ℕ
+  pub program_after : ℕ
+  pub capture_before : ℕ
+  pub capture_after : ℕ
+  pub out_before : ℕ
+  pub out_after : ℕ
+  pub old : Option (List ℕ)
+  pub new : Option (List ℕ)
+
+-- the told text is accepted as some program
+abbrev pub IsProgram : List ℕ → Type 0
+IsProgram text = (p : Program) × IsAccepted text p
+
+-- the told text is accepted as no program
+abbrev pub IsNoProgram : List ℕ → Type 0
+IsNoProgram text = (p : Program) → ¬ IsAccepted text p
+
+-- the told bytes are a capture of some records
+abbrev pub IsSomeCapture : List ℕ → Type 0
+IsSomeCapture bytes = (records : List Record) × IsCapture bytes records
+
+-- the told bytes are no capture
+abbrev pub IsNoCapture : List ℕ → Type 0
+IsNoCapture bytes = (records : List Record) → ¬ IsCapture bytes records
+
+-- the told text is accepted as a program, the told bytes are a capture, and this holds of the report of
+-- the program's sequential run over the capture's headers
+abbrev pub OfReport : Seen → (List ℕ → Type 0) → Type 0
+OfReport seen P = IfSome seen.text (λ text. IfSome seen.bytes (λ bytes.
+    (p : Program) × (records : List Record) × IsAccepted text p × IsCapture bytes records × P (report p (headers p.packet.fields records))))
+
+-- the output is as it was
+abbrev pub IsUnwritten : Seen → Type 0
+IsUnwritten seen = seen.new ≡ seen.old
+
+-- why taken words get this answer
+abbrev pub Because : Status → Seen → Type 0
+Because status.Done seen = OfReport seen (λ text. seen.new ≡ gained text seen.old)
+Because status.Words seen = ⊥
+Because (status.Program program.NotYet) seen = IfSome seen.text IsNoProgram × IsUnwritten seen
+Because (status.Program program.NoMemory) seen = ⊥
+Because (status.Capture capture.NotYet) seen = IfSome seen.text IsProgram × IfSome seen.bytes IsNoCapture × IsUnwritten seen
+Because (status.Capture capture.NoMemory) seen = ⊥
+Because status.ReadFault seen =
+    (Rose seen.program_before seen.program_after ⊎ (IfSome seen.text IsProgram × Rose seen.capture_before seen.capture_after)) × IsUnwritten seen
+Because status.WriteFault seen = Rose seen.out_before seen.out_after × OfReport seen (TookFront seen.old seen.new)
+Because status.NoMemory seen = IsUnwritten seen
+
+-- no read of the program or of the capture failed
+abbrev pub IsReadThrough : Seen → Type 0
+IsReadThrough seen = (¬ Rose seen.program_before seen.program_after) × (¬ Rose seen.capture_before seen.capture_after)
+
+-- the answer is this one, unless memory ran out
+abbrev pub IsOrNoMemory : Status → Status → Type 0
+IsOrNoMemory answer s = (answer ≡ s) ⊎ (answer ≡ status.NoMemory)
+
+-- the line that tells of an answer other than Done
+abbrev pub line : Status → List ℕ
+line status.Done = []
+line status.Words = codes "mp5: words\n"
+line (status.Program program.NotYet) = codes "mp5: program 40\n"
+line (status.Program program.NoMemory) = codes "mp5: no memory\n"
+line (status.Capture capture.NotYet) = codes "mp5: capture 40\n"
+line (status.Capture capture.NoMemory) = codes "mp5: no memory\n"
+line status.ReadFault = codes "mp5: read fault\n"
+line status.WriteFault = codes "mp5: write fault\n"
+line status.NoMemory = codes "mp5: no memory\n"
+
+-- the exit status of an answer
+abbrev pub code : Status → ℕ
+code status.Done = 0
+code status.Words = 2
+code (status.Program f) = 3
+code (status.Capture f) = 4
+code status.ReadFault = 5
+code status.WriteFault = 6
+code status.NoMemory = 7

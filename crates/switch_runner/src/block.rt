@@ -1,0 +1,90 @@
+//! Bytes that are collected before they are written.
+ghost use Rattle.std.specs.Prelude.{◌≡◌, ◌≤◌, ◌<◌, ◌+◌, ◌++◌, ℕ, List, [], length, IfOk, OnOk, OnErr, vec_len, vec_capacity};
+ghost use Rattle.std.specs.Bool.{OnTrue, OnFalse};
+ghost use Rattle.switch_runner.specs.Outside.{TookFront, gained};
+ghost use Rattle.switch_runner.specs.Faults.{WriteCause};
+
+use crate::outside::{Failed, Sink};
+use crate::transfer::write_all;
+use std::alloc::{AllocError, Global};
+use std::marker::Model;
+
+// How many bytes a block has room for.
+const ROOM: usize = 65536;
+
+/// Bytes that wait to be written together.
+#[derive(Drop)]
+pub(crate) struct Block {
+    bytes: Vec<u8>,
+}
+
+impl Model for Block {
+    ghost Value = { List ℕ };
+
+    ghost view = { λ b. b.bytes.items };
+
+    ghost invariant = { λ b. (65536 ≤ vec_capacity b.bytes) × (vec_len b.bytes ≤ 65536) };
+}
+
+impl Block {
+    /// An empty block with room for 64 KiB.
+    pub(crate) fn new(alloc: Global) -> Result<Block, AllocError>
+        ensures { IfOk result (λ b. b ≡ []) }
+    {
+        Ok(Block {
+            bytes: Vec::with_capacity(alloc, ROOM)?,
+        })
+    }
+
+    /// Adds a piece, and writes the block first where the piece has no room in it. A piece that is
+    /// larger than the block is written by itself. Takes no memory.
+    pub(crate) fn put<K: Sink>(&mut self, out: &mut K, piece: &[u8]) -> Result<(), Failed>
+        ensures ok { OnOk result
+            (gained self.new (K.taken out.new) ≡ gained (self.old ++ piece.now) (K.taken out.old)) }
+        ensures err { OnErr result
+            (TookFront (K.taken out.old) (K.taken out.new) (self.old ++ piece.now)) }
+        ensures cause { WriteCause (K.faults out.old) (K.faults out.new) result }
+    {
+        if self.add(piece) {
+            return Ok(());
+        }
+        match self.flush(out) {
+            Ok(()) => {}
+            Err(failed) => return Err(failed),
+        }
+        if self.add(piece) {
+            return Ok(());
+        }
+        match write_all(out, piece) {
+            Ok(()) => Ok(()),
+            Err(failed) => Err(failed),
+        }
+    }
+
+    /// Writes what waits.
+    pub(crate) fn flush<K: Sink>(&mut self, out: &mut K) -> Result<(), Failed>
+        ensures ok { OnOk result (K.taken out.new ≡ gained self.old (K.taken out.old)) }
+        ensures empty { OnOk result (self.new ≡ []) }
+        ensures err { OnErr result (TookFront (K.taken out.old) (K.taken out.new) self.old) }
+        ensures left { OnErr result (self.new ≡ self.old) }
+        ensures cause { WriteCause (K.faults out.old) (K.faults out.new) result }
+    {
+        write_all(out, self.bytes.as_slice())?;
+        self.bytes.clear();
+        Ok(())
+    }
+
+    // Adds a piece where there is room for it, and says whether there was.
+    fn add(&mut self, piece: &[u8]) -> bool
+        ensures added { OnTrue result (self.new ≡ self.old ++ piece.now) }
+        ensures kept { OnFalse result (self.new ≡ self.old) }
+    {
+        if piece.len() > ROOM - self.bytes.len() {
+            return false;
+        }
+        match self.bytes.extend_from_slice(piece) {
+            Ok(()) => true,
+            Err(AllocError) => unreachable!(),
+        }
+    }
+}

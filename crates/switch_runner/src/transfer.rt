@@ -1,0 +1,117 @@
+//! Reading a file whole, and writing bytes whole.
+ghost use Rattle.std.specs.Prelude.{◌≡◌, ◌≢◌, ◌≤◌, ◌<◌, ◌+◌, ◌++◌, ℕ, List, [], length, take, vec_len, IfOk, IfSome, OnOk, OnErr};
+ghost use Rattle.switch_runner.specs.Outside.{TookFront, gained};
+ghost use Rattle.switch_runner.specs.Faults.{ReadCause, WriteCause};
+ghost use Rattle.switch_runner.specs.Transfer.{ReadsOn};
+
+use crate::outside::{Failed, Sink, Store, StoreFault};
+use std::alloc::{AllocError, Global};
+
+// The most bytes that one read or write moves.
+const PIECE: usize = 65536;
+
+/// Reads a file to its end, or to one byte past `limit`.
+pub(crate) fn read_whole<S: Store>(
+    alloc: Global,
+    store: &mut S,
+    name: &str,
+    limit: u64,
+) -> Result<Vec<u8>, StoreFault>
+    requires { limit ≤ 134217728 }
+    ensures keeps { (other : List ℕ) → S.told store.new other ≡ S.told store.old other }
+    ensures read { IfOk result
+        (λ v. IfSome (S.told store.old name.now) (λ bytes. v.items ≡ take (limit + 1) bytes)) }
+    ensures cause { ReadCause (S.faults store.old name.now) (S.faults store.new name.now) result }
+    ensures others { (other : List ℕ) → other ≢ name.now
+        → S.faults store.new other ≡ S.faults store.old other }
+{
+    match vec![in alloc; 0u8; PIECE] {
+        Ok(mut buffer) => read_by(alloc, store, name, limit, buffer.as_mut_slice()),
+        Err(AllocError) => Err(StoreFault::NoMemory),
+    }
+}
+
+// Reads a file as `read_whole` does, in pieces that fit the buffer.
+fn read_by<S: Store>(
+    alloc: Global,
+    store: &mut S,
+    name: &str,
+    limit: u64,
+    buffer: &mut [u8],
+) -> Result<Vec<u8>, StoreFault>
+    requires limited { limit ≤ 134217728 }
+    requires room { length buffer.old ≡ PIECE }
+    ensures keeps { (other : List ℕ) → S.told store.new other ≡ S.told store.old other }
+    ensures read { IfOk result
+        (λ v. IfSome (S.told store.old name.now) (λ bytes. v.items ≡ take (limit + 1) bytes)) }
+    ensures cause { ReadCause (S.faults store.old name.now) (S.faults store.new name.now) result }
+    ensures others { (other : List ℕ) → other ≢ name.now
+        → S.faults store.new other ≡ S.faults store.old other }
+{
+    let most = limit as usize + 1;
+    let mut text = Vec::new(alloc);
+    while text.len() < most {
+        let room = PIECE.min(most - text.len());
+        match read_more(store, name, &mut buffer[..room], &mut text) {
+            Ok(0) => return Ok(text),
+            Ok(_) => {}
+            Err(fault) => return Err(fault),
+        }
+    }
+    Ok(text)
+}
+
+// Reads a piece that goes on where the text ends, adds it to the text, and says how many bytes came.
+fn read_more<S: Store>(
+    store: &mut S,
+    name: &str,
+    piece: &mut [u8],
+    text: &mut Vec<u8>,
+) -> Result<usize, StoreFault>
+    requires { vec_len text.old ≤ 134217729 }
+    ensures keeps { (other : List ℕ) → S.told store.new other ≡ S.told store.old other }
+    ensures within { IfOk result (λ n. n ≤ length piece.new) }
+    ensures longer { IfOk result (λ n. vec_len text.new ≡ vec_len text.old + n) }
+    ensures grown { IfOk result
+        (λ n. IfSome (S.told store.old name.now)
+        (λ bytes. ReadsOn bytes text.old.items n (length piece.old) text.new.items)) }
+    ensures cause { ReadCause (S.faults store.old name.now) (S.faults store.new name.now) result }
+    ensures others { (other : List ℕ) → other ≢ name.now
+        → S.faults store.new other ≡ S.faults store.old other }
+{
+    match store.read_at(name, text.len() as u64, piece) {
+        Ok(count) => match text.extend_from_slice(&piece[..count]) {
+            Ok(()) => Ok(count),
+            Err(AllocError) => Err(StoreFault::NoMemory),
+        },
+        Err(fault) => Err(fault),
+    }
+}
+
+/// Writes all bytes, going on after a short write.
+pub(crate) fn write_all<K: Sink>(out: &mut K, bytes: &[u8]) -> Result<(), Failed>
+    ensures ok { OnOk result (K.taken out.new ≡ gained bytes.now (K.taken out.old)) }
+    ensures err { OnErr result (TookFront (K.taken out.old) (K.taken out.new) bytes.now) }
+    ensures cause { WriteCause (K.faults out.old) (K.faults out.new) result }
+{
+    let mut done = 0;
+    while done < bytes.len() {
+        match write_more(out, &bytes[done..]) {
+            Ok(count) => done += count,
+            Err(failed) => return Err(failed),
+        }
+    }
+    Ok(())
+}
+
+// Writes a front of the bytes, not longer than a piece, and says how many were taken.
+fn write_more<K: Sink>(out: &mut K, bytes: &[u8]) -> Result<usize, Failed>
+    ensures within { IfOk result (λ n. n ≤ length bytes.now) }
+    ensures some { IfOk result (λ n. 0 < length bytes.now → 0 < n) }
+    ensures ok { IfOk result (λ n. K.taken out.new ≡ gained (take n bytes.now) (K.taken out.old)) }
+    ensures err { OnErr result (TookFront (K.taken out.old) (K.taken out.new) bytes.now) }
+    ensures cause { WriteCause (K.faults out.old) (K.faults out.new) result }
+{
+    let room = PIECE.min(bytes.len());
+    out.write(&bytes[..room])
+}
