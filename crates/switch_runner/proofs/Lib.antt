@@ -1,3 +1,6 @@
+pub mod NumberedRun
+pub mod PassesChecks
+pub mod PacketLengths
 pub mod WritingLemmas
 pub mod TransferLemmas
 pub mod ReportLemmas

@@ -5,6 +5,8 @@ pub use Rattle.capture_io.specs.Header
 pub mod ThinProgram
 pub mod Outside
 pub mod Faults
+pub mod Numbered
+pub mod Checks
 pub mod Writing
 pub mod CommandLine
 pub mod Report

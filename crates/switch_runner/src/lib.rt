@@ -6,8 +6,14 @@
 #![tactic(auto)]
 
 mod block;
+mod checks;
+mod evaluate;
+mod names;
+mod numbered;
 mod outside;
 mod report;
+mod resolve;
+mod run;
 mod status;
 mod transfer;
 

@@ -1,4 +1,8 @@
+ghost use Rattle.std.specs.Prelude.{◌≡◌};
+ghost use Rattle.switch_runner.specs.declared.status.ProgramFault.TheVariants.{NoMemory};
+
 use capture_io::CaptureFault;
+use std::alloc::{AllocError, AllocFailed};
 use thiserror::Error;
 
 /// Why a program isn't accepted.
@@ -10,6 +14,22 @@ pub enum ProgramFault {
     /// Memory ran out.
     #[error("out of memory")]
     NoMemory,
+}
+
+impl From<AllocError> for ProgramFault {
+    ghost from_gives = { λ _ e. e ≡ NoMemory };
+
+    fn from(_e: AllocError) -> ProgramFault {
+        ProgramFault::NoMemory
+    }
+}
+
+impl<T: Drop> From<AllocFailed<T>> for ProgramFault {
+    ghost from_gives = { λ _ e. e ≡ NoMemory };
+
+    fn from(_e: AllocFailed<T>) -> ProgramFault {
+        ProgramFault::NoMemory
+    }
 }
 
 /// How a call of the program ends.
