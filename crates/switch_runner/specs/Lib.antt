@@ -5,3 +5,4 @@ pub use Rattle.capture_io.specs.Header
 pub mod Outside
 pub mod Faults
 pub mod Transfer
+pub mod Memory

@@ -6,7 +6,9 @@
 #![tactic(auto)]
 
 mod block;
+mod memory;
 mod outside;
 mod transfer;
 
+pub use memory::{MemorySink, MemoryStore, NamedBytes, SureSink, SureStore};
 pub use outside::{Failed, Sink, Store, StoreFault};
