@@ -1,9 +1,10 @@
 -- What a store in memory holds after a read that failed.
-use Rattle.std.proofs.Common.{◌≡◌, ◌≢◌, ◌<◌, ◌≤◌, ◌+◌, ◌-◌, ◌^◌, ℕ, min, List, length, get_or, Bool, true, false, cond, Some, None, Err, ap, sym, subst, ◌∙◌, arith, get_or-set_same, get_or-set_other}
+use Rattle.std.proofs.Common.{◌≡◌, ◌≢◌, ◌<◌, ◌≤◌, ◌+◌, ◌-◌, ◌^◌, ℕ, min, eqb, List, [], ◌∷◌, ◌++◌, length, get_or, Bool, true, false, cond, not, Some, None, Err, refl, ap, sym, subst, ◌∙◌, arith, add-zero, length-append, get_or-set_same, get_or-set_other}
 use Rattle.std.proofs.Math.ListN.{set}
-use Rattle.std.proofs.lemmas.Bool.{lt-ltb}
+use Rattle.std.proofs.lemmas.Bool.{lt-ltb, ltb-false}
 use Rattle.std.proofs.lemmas.List.{get_or_read}
-use Rattle.std.proofs.lemmas.List.Folds.{position_or_len-set}
+use Rattle.std.proofs.lemmas.List.Folds.{position_or_len-set, position_or_len_push}
+use Rattle.std.proofs.lemmas.List.Sums.{prefix_len-le-length}
 use Rattle.std.proofs.lemmas.List.Quantifiers.{position-Some}
 use Rattle.std.proofs.lemmas.Slice.Eq.{bytes_eq-Decides}
 use Rattle.std.specs.List.{position, position_or_len}
@@ -65,3 +66,21 @@ rises held files name i old new same r =
 pub stays : (held files : List NamedFile) (name : List ℕ) (i : ℕ) (old new : NamedFile) → files ≡ held → Counts files name i old new → (other : List ℕ) → other ≢ name → (file_of (set files i new) other).faults ≡ (file_of held other).faults
 stays held files name i old new same r other ne =
     ap (λ f. f.faults) (file_of-set_other files name other i old new r ne) ∙ ap (λ fs. (file_of fs other).faults) same
+
+none_of_cond : (b : Bool) (n : ℕ) → cond b (Some n) None ≡ None → b ≡ false
+none_of_cond true n e = cc
+none_of_cond false n e = refl
+
+cond_both : (b : Bool) (x y z : ℕ) → x ≡ z → y ≡ z → cond b x y ≡ z
+cond_both true x y z e f = e
+cond_both false x y z e f = f
+
+-- a name that isn't listed stands last once it is added
+pub listed_last : (files : List NamedFile) (name : List ℕ) (new : NamedFile) → position (named name) files ≡ None → new.name ≡ name → position (named name) (files ++ new ∷ []) ≡ Some (length files)
+listed_last files name new none same =
+    let most : position_or_len (named name) files ≤ length files = prefix_len-le-length (λ f. not (named name f)) files in
+    let least : length files ≤ position_or_len (named name) files = ltb-false _ _ (none_of_cond _ _ none) in
+    let passes : named name new ≡ true = (bytes_eq-Decides new.name name).1 same in
+    let last : position_or_len (named name) (files ++ new ∷ []) ≡ length files = position_or_len_push (named name) files new ∙ cond_both (eqb (position_or_len (named name) files) (length files)) _ _ _ (ap (λ b. length files + cond b 0 1) passes ∙ add-zero (length files)) (omega arith) in
+    let longer = length-append files (new ∷ []) in
+    some_here _ _ _ (lt-ltb _ _ (omega arith)) last

@@ -6,9 +6,13 @@
 #![tactic(auto)]
 
 mod block;
+mod edge;
+mod fabric;
 mod memory;
 mod outside;
 mod transfer;
 
+pub use edge::{FileStore, OutSink};
+pub use fabric::{Fabric, NoFabric};
 pub use memory::{MemorySink, MemoryStore, NamedBytes, SureSink, SureStore};
 pub use outside::{Failed, Sink, Store, StoreFault};

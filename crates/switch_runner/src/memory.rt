@@ -57,7 +57,7 @@ impl NamedBytes {
     }
 
     // Counts a read that failed; the count stands still at its type's end.
-    fn count_fault(&mut self)
+    pub(crate) fn count_fault(&mut self)
         ensures risen { self.new
             ≡ record self.old { faults = min (self.old.faults + 1) (2 ^ 64 - 1) } }
         ensures more { self.old.faults ≤ self.new.faults }
@@ -67,7 +67,7 @@ impl NamedBytes {
 }
 
 // The place of the first file of this name.
-fn place_of(files: &[NamedBytes], name: &str) -> Option<usize>
+pub(crate) fn place_of(files: &[NamedBytes], name: &str) -> Option<usize>
     ensures { result ≡ position (named name.now) files.now }
 {
     files.iter().position(|file| file.is_named(name))
