@@ -31,7 +31,9 @@ pub struct FileStore<R: Files> {
 
 impl<R: Files + AllocGlobal> FileStore<R> {
     /// A store of the files that `rt` opens.
-    pub fn new(rt: R) -> FileStore<R> {
+    pub fn new(rt: R) -> FileStore<R>
+        ensures { (name : List ℕ) → ⟦<FileStore<R> as Store>⟧.faults result name ≡ 0 }
+    {
         let names = Vec::new(rt.alloc());
         FileStore {
             rt,
@@ -124,7 +126,9 @@ pub struct OutSink {
 
 impl OutSink {
     /// Standard output.
-    pub fn output(to: Stdout) -> OutSink {
+    pub fn output(to: Stdout) -> OutSink
+        ensures { ⟦<OutSink as Sink>⟧.faults result ≡ 0 }
+    {
         OutSink {
             stream: Stream::Output(to),
             faults: 0,
@@ -132,7 +136,9 @@ impl OutSink {
     }
 
     /// Standard error.
-    pub fn errors(to: Stderr) -> OutSink {
+    pub fn errors(to: Stderr) -> OutSink
+        ensures { ⟦<OutSink as Sink>⟧.faults result ≡ 0 }
+    {
         OutSink {
             stream: Stream::Errors(to),
             faults: 0,
@@ -157,5 +163,48 @@ impl Sink for OutSink {
                 Err(Failed)
             }
         }
+    }
+}
+
+#[cfg(test)]
+mod tests {
+    use super::*;
+    use std::test::Fail;
+
+    #[test]
+    fn files_are_read_from_any_place(rt: HostRuntime) -> Result<(), Fail> {
+        fs::write(&rt, "digits", "0123456789")?;
+        fs::write(&rt, "letters", "abc")?;
+        let mut store = FileStore::new(rt);
+        let mut piece = [0u8; 4];
+        let cases = [
+            ("digits", 0u8, "0123"),
+            ("digits", 4, "4567"),
+            ("digits", 8, "89"),
+            ("digits", 10, ""),
+            ("letters", 1, "bc"),
+            ("digits", 3, "3456"),
+            ("digits", 20, ""),
+        ];
+        for (name, at, want) in cases {
+            let count = store.read_at(name, u64::from(at), &mut piece)?;
+            assert_eq!(rt; &piece[..count], want.as_bytes(), "{name} at {at}");
+        }
+        let missing = store.read_at("nowhere", 0, &mut piece);
+        assert_eq!(rt; missing, Err(StoreFault::Failed));
+        fs::create_dir(&rt, "folder")?;
+        let folder = store.read_at("folder", 0, &mut piece);
+        assert_eq!(rt; folder, Err(StoreFault::Failed));
+        assert_eq!(rt; store.read_at("letters", 0, &mut piece)?, 3);
+        Ok(())
+    }
+
+    #[test]
+    fn the_standard_streams_take_bytes(rt: HostRuntime) -> Result<(), Fail> {
+        for mut sink in [OutSink::output(rt.stdout()), OutSink::errors(rt.stderr())] {
+            assert_eq!(rt; sink.write(b"taken\n")?, 6);
+            assert_eq!(rt; sink.write(b"")?, 0);
+        }
+        Ok(())
     }
 }

@@ -255,3 +255,88 @@ impl Sink for SureSink {
         Ok(piece.len())
     }
 }
+
+#[cfg(test)]
+mod tests {
+    use super::*;
+    use crate::block::Block;
+    use crate::transfer::read_whole;
+    use std::alloc::Global;
+    use std::test::Fail;
+
+    // A store with one file of twelve bytes.
+    fn twelve_bytes(alloc: Global, most: u32, fails: &[u64]) -> Result<MemoryStore, AllocError>
+        requires { 0 < most }
+    {
+        let name = Name::new(Vec::from_slice(alloc, b"text")?);
+        let bytes = Vec::from_slice(alloc, b"twelve bytes")?;
+        let files = vec![in alloc; NamedBytes::new(name, bytes)]?;
+        Ok(MemoryStore::new(files, most, Vec::from_slice(alloc, fails)?))
+    }
+
+    #[test]
+    fn a_file_is_read_to_its_end_or_one_byte_past_the_limit(rt: HostRuntime) -> Result<(), Fail> {
+        let alloc = rt.alloc();
+        for most in 1..14u32 {
+            for (limit, want) in [
+                (0u8, "t"),
+                (5, "twelve"),
+                (11, "twelve bytes"),
+                (40, "twelve bytes"),
+            ] {
+                let mut store = twelve_bytes(alloc, most, &[])?;
+                let text = read_whole(alloc, &mut store, "text", u64::from(limit))?;
+                assert_eq!(rt;
+                    text.as_slice(),
+                    want.as_bytes(),
+                    "{most} at a time, limit {limit}"
+                );
+            }
+        }
+        let mut store = twelve_bytes(alloc, 5, &[1])?;
+        assert!(rt; read_whole(alloc, &mut store, "other", 9)?.is_empty());
+        let mut store = SureStore::new(Vec::new(alloc));
+        assert!(rt; read_whole(alloc, &mut store, "text", 9)?.is_empty());
+        Ok(())
+    }
+
+    // Five bytes at a time the twelve take three reads, and a fourth finds the end.
+    #[test]
+    fn a_read_that_fails_is_answered(rt: HostRuntime) -> Result<(), Fail> {
+        let alloc = rt.alloc();
+        for failing in 1..6u64 {
+            let mut store = twelve_bytes(alloc, 5, &[failing])?;
+            match read_whole(alloc, &mut store, "text", 40) {
+                Ok(text) => {
+                    assert_eq!(rt; failing, 5);
+                    assert_eq!(rt; text.as_slice(), b"twelve bytes".as_slice());
+                }
+                Err(fault) => {
+                    assert!(rt; failing < 5);
+                    assert_eq!(rt; fault, StoreFault::Failed);
+                }
+            }
+        }
+        Ok(())
+    }
+
+    // Three bytes at a time the eight take three writes.
+    #[test]
+    fn a_write_that_fails_leaves_a_front(rt: HostRuntime) -> Result<(), Fail> {
+        let alloc = rt.alloc();
+        for (failing, want) in [(1u64, ">"), (2, ">one"), (3, ">one, t"), (4, ">one, two")] {
+            let fails = Vec::from_slice(alloc, &[failing])?;
+            let mut sink = MemorySink::new(Vec::from_slice(alloc, b">")?, 3, fails);
+            let mut block = Block::new(alloc)?;
+            block.put(&mut sink, b"one, ")?;
+            block.put(&mut sink, b"two")?;
+            assert_eq!(rt; sink.bytes(), b">".as_slice());
+            assert_eq!(rt; block.flush(&mut sink).is_ok(), failing == 4);
+            assert_eq!(rt; sink.bytes(), want.as_bytes(), "write {failing} fails");
+        }
+        let mut block = Block::new(alloc)?;
+        block.put(&mut SureSink::new(), b"kept nowhere")?;
+        block.flush(&mut SureSink::new())?;
+        Ok(())
+    }
+}
