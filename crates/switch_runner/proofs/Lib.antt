@@ -4,3 +4,4 @@ pub mod PacketLengths
 pub mod WritingLemmas
 pub mod TransferLemmas
 pub mod ReportLemmas
+pub mod MemoryLemmas

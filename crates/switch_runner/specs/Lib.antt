@@ -12,3 +12,4 @@ pub mod CommandLine
 pub mod Report
 pub mod Causes
 pub mod Transfer
+pub mod Memory

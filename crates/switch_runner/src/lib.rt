@@ -10,6 +10,9 @@ mod checks;
 mod evaluate;
 mod names;
 mod numbered;
+mod edge;
+mod fabric;
+mod memory;
 mod outside;
 mod report;
 mod resolve;
@@ -17,5 +20,8 @@ mod run;
 mod status;
 mod transfer;
 
+pub use edge::{FileStore, OutSink};
+pub use fabric::{Fabric, NoFabric};
+pub use memory::{MemorySink, MemoryStore, NamedBytes, SureSink, SureStore};
 pub use outside::{Failed, Sink, Store, StoreFault};
 pub use status::{ProgramFault, Status};
