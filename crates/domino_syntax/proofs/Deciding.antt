@@ -1,14 +1,14 @@
 -- The parser of programs decides the grammar, and no token list has two trees.
 use mathlib.Core.HLevel.{Σ_prop_path}
-use Rattle.std.proofs.Common.{◌≡◌, Bool, true, List, [], ◌∷◌, ◌++◌, Ok, Err, IfOk, refl, ap, sym, subst, ◌∙◌}
+use Rattle.std.proofs.Common.{◌≡◌, true, List, [], ◌∷◌, ◌++◌, Ok, Err, IfOk, refl, ap, sym, subst, ◌∙◌}
 use Rattle.std.proofs.Math.Bool.{Bool-set}
 use Rattle.std.proofs.lemmas.List.{append-nil}
 use Rattle.domino_tree.specs.declared.token.Token.{Token}
 use Rattle.domino_tree.specs.declared.program.Program.{Program}
 use Rattle.domino_tree.specs.Derives.{Derives}
 use Rattle.domino_syntax.specs.Reading.{Outcome, Parser, and_then, pure, end, items, packet, function, parts}
-use Rattle.domino_syntax.proofs.Exact.{Named, Front, Fronts, Exact, By}
-use Rattle.domino_syntax.proofs.Phrases.{Parts, parts_tokens, are_parts, exact_parts}
+use Rattle.domino_syntax.proofs.Exact.{Named, Fronts, By}
+use Rattle.domino_syntax.proofs.Programs.{Parts, parts_tokens, are_parts, exact_parts}
 
 -- ---- a program and its parts
 

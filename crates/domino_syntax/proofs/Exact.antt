@@ -1,5 +1,5 @@
 -- Parsers that decide a grammar: what is read is derived, and what is derived is read.
-use Rattle.std.proofs.Common.{◌≡◌, ℕ, zero, suc, ◌≤◌, ◌+◌, Bool, true, false, not, ◌&&◌, cond, if◌then◌else◌, List, [], ◌∷◌, ◌++◌, length, drop, Option, Some, None, Ok, Err, IfOk, refl, ap, sym, subst, ◌∙◌, append_assoc, arith, length-append}
+use Rattle.std.proofs.Common.{◌≡◌, ℕ, zero, suc, ◌≤◌, Bool, true, false, not, if◌then◌else◌, List, [], ◌∷◌, ◌++◌, length, Ok, Err, IfOk, refl, ap, sym, subst, ◌∙◌, append_assoc, arith, length-append}
 use Rattle.std.proofs.lemmas.Bool.{and_from, and_parts}
 use Rattle.std.proofs.lemmas.List.{append-nil}
 use Rattle.std.proofs.lemmas.List.Concat.{flat_map-cons}
@@ -75,8 +75,8 @@ pub exact_then : {A B : Type 0} {p : Parser A} {q : A → Parser B} {G : List To
 exact_then {A = A} {B = B} {p = p} {q = q} {G = G} {H = H} first second follows = record {
   sound = λ tokens named. then_sound G H q tokens (p tokens) named (first.sound tokens named) (λ x. (second x).sound);
   complete = λ used rest y h stop.
-    let read = first.complete h.front (h.back ++ rest) h.value h.first (follows h.value h.back rest y h.second stop) in
-    ap (λ l. and_then (p (l ++ rest)) q) h.parts ∙ (ap (λ l. and_then (p l) q) (append_assoc h.front h.back rest) ∙ (ap (λ o. and_then o q) read ∙ (second h.value).complete h.back rest y h.second stop));
+      let read = first.complete h.front (h.back ++ rest) h.value h.first (follows h.value h.back rest y h.second stop) in
+      ap (λ l. and_then (p (l ++ rest)) q) h.parts ∙ (ap (λ l. and_then (p l) q) (append_assoc h.front h.back rest) ∙ (ap (λ o. and_then o q) read ∙ (second h.value).complete h.back rest y h.second stop));
 }
 
 -- where any list may follow the first form
@@ -108,6 +108,11 @@ pub record By {A : Type 0} (spell : A → List Token) (test : A → Bool) (used 
 pub not_true : (b : Bool) → not b ≡ true → b ≡ false
 not_true true h = sym h
 not_true false h = refl
+
+-- two pieces in other words
+pub join : (used front back first second : List Token) → used ≡ front ++ back → front ≡ first → back ≡ second → used ≡ first ++ second
+join used front back first second parts is_first is_second =
+    parts ∙ (ap (λ l. l ++ back) is_first ∙ ap (λ l. first ++ l) is_second)
 
 -- ---- forms of one kind, one after another
 
@@ -178,8 +183,9 @@ module _ {A : Type 0} (begins : List Token → Bool) (p : Parser A) (G : List To
   exact_all exact starts long = record {
     sound = λ tokens named. all_sound exact tokens (all_of begins p tokens) (repeat_sound exact.sound (length tokens) [] tokens named);
     complete = λ used rest xs h stop.
-      repeat_complete (λ used rest x h. exact.complete used rest x h refl) starts (length (used ++ rest)) xs [] used rest (omega (arith, counted long xs used h, length-append used rest)) h (not_true (begins rest) stop);
+        repeat_complete (λ used rest x h. exact.complete used rest x h refl) starts (length (used ++ rest)) xs [] used rest (omega (arith, counted long xs used h, length-append used rest)) h (not_true (begins rest) stop);
   }
+
 module _ {A : Type 0} (spell : A → List Token) (test : A → Bool) where
   many_to : (used : List Token) (xs : List A) → Many (By spell test) used xs → By (flat_map spell) (list_all test) used xs
   many_to used [] h = record { text = h; holds = refl }
@@ -195,5 +201,5 @@ module _ {A : Type 0} (spell : A → List Token) (test : A → Bool) where
   pub exact_list : (begins : List Token → Bool) (p : Parser A) → Exact p (By spell test) anything → ((x : A) (rest : List Token) → begins (spell x ++ rest) ≡ true) → ((x : A) → 1 ≤ length (spell x)) → Exact (all_of begins p) (By (flat_map spell) (list_all test)) (λ rest. not (begins rest))
   exact_list begins p exact starts long =
       exact_as (By (flat_map spell) (list_all test))
-        (exact_all begins p (By spell test) exact (λ used rest x h. subst (λ l. begins (l ++ rest) ≡ true) (sym h.text) (starts x rest)) (λ used x h. subst (λ l. 1 ≤ length l) (sym h.text) (long x)))
-        many_to many_from
+      (exact_all begins p (By spell test) exact (λ used rest x h. subst (λ l. begins (l ++ rest) ≡ true) (sym h.text) (starts x rest)) (λ used x h. subst (λ l. 1 ≤ length l) (sym h.text) (long x)))
+      many_to many_from

@@ -1,5 +1,10 @@
 pub mod LexLemmas
 pub mod Turns
 pub mod Exact
-pub mod Phrases
+pub mod OneToken
+pub mod References
+pub mod Expressions
+pub mod Statements
+pub mod Declarations
+pub mod Programs
 pub mod Deciding

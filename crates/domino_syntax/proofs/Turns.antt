@@ -1,5 +1,5 @@
 -- One turn of the parser's loops.
-use Rattle.std.proofs.Common.{◌≡◌, ℕ, suc, Bool, true, List, [], ◌∷◌, ◌++◌, drop, Some, Option, Result, Ok, Err, refl, ap, subst, sym, ◌∙◌}
+use Rattle.std.proofs.Common.{◌≡◌, ℕ, suc, Bool, true, List, [], ◌∷◌, ◌++◌, drop, Some, Result, Ok, Err, subst, sym}
 use Rattle.mp5_words.specs.declared.op.Op2.{Op2}
 use Rattle.domino_tree.specs.declared.token.Token.{Token}
 use Rattle.domino_tree.specs.declared.expr.Expr.{Expr}
@@ -7,7 +7,7 @@ use Rattle.domino_tree.specs.declared.expr.Expr.TheVariants as expr
 use Rattle.std.specs.Result.{IsErrAnd, IsErrOf}
 use Rattle.domino_syntax.specs.declared.fault.TextFault.{TextFault}
 use Rattle.domino_syntax.specs.declared.fault.TextFault.TheVariants as fault
-use Rattle.domino_syntax.specs.Reading.{Parser, Outcome, Reads, and_then, repeat, next_operator, by_operator, chain}
+use Rattle.domino_syntax.specs.Reading.{Parser, Outcome, Reads, repeat, next_operator, chain}
 
 pub repeat_turn : {A : Type 0} (begins : List Token → Bool) (form : Parser A) (n m : ℕ) (found : List A) (tokens rest : List Token) (x : A) → n ≡ suc m → begins tokens ≡ true → form tokens ≡ Ok (x, rest) → repeat begins form n found tokens ≡ repeat begins form m (found ++ x ∷ []) rest
 unfolding repeat

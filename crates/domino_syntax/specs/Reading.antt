@@ -19,7 +19,7 @@ use Rattle.domino_tree.specs.declared.program.Item.{Item}
 use Rattle.domino_tree.specs.declared.program.Item.TheVariants as item
 use Rattle.domino_tree.specs.declared.program.PacketDecl.{PacketDecl}
 use Rattle.domino_tree.specs.declared.program.Target.{Target}
-use Rattle.domino_tree.specs.declared.program.Target.TheVariants as target
+use Rattle.domino_tree.specs.declared.program.Target.TheVariants as targets
 use Rattle.domino_tree.specs.declared.program.Stmt.{Stmt}
 use Rattle.domino_tree.specs.declared.program.Stmt.TheVariants as stmt
 use Rattle.domino_tree.specs.declared.program.Function.{Function}
@@ -30,6 +30,7 @@ use Rattle.domino_syntax.specs.declared.fault.TextFault.TheVariants as fault
 abbrev pub Outcome : Type 0 → Type 0
 Outcome A = Result (A × List Token) (List Token)
 
+-- from a list, a form at its front
 abbrev pub Parser : Type 0 → Type 0
 Parser A = List Token → Outcome A
 
@@ -41,18 +42,22 @@ Reads outcome (Err fault.NoMemory) new = Unit {0}
 
 -- ---- parsers in a row
 
+-- what is read after a form, which may depend on it
 abbrev pub and_then : {A B : Type 0} → Outcome A → (A → Parser B) → Outcome B
 and_then (Ok p) f = f p.0 p.1
 and_then (Err rest) f = Err rest
 
+-- one form, and then another, which may depend on it
 infixl 10 ◌>>=◌
 abbrev pub ◌>>=◌ : {A B : Type 0} → Parser A → (A → Parser B) → Parser B
 p >>= f = λ tokens. and_then (p tokens) f
 
+-- one form, and then another
 infixl 10 ◌>>◌
 abbrev pub ◌>>◌ : {A B : Type 0} → Parser A → Parser B → Parser B
 p >> q = p >>= (λ _. q)
 
+-- takes no token
 abbrev pub pure : {A : Type 0} → A → Parser A
 pure x = λ tokens. Ok (x, tokens)
 
@@ -68,9 +73,11 @@ all_of begins form = λ tokens. repeat begins form (length tokens) [] tokens
 
 -- ---- one token
 
+-- `==` on signs
 abbrev pub same_sign : Sign → Sign → Bool
 same_sign = sameb sign_type
 
+-- `==` on reserved names
 abbrev pub same_keyword : Keyword → Keyword → Bool
 same_keyword = sameb keyword_type
 
@@ -82,6 +89,7 @@ sees_sign s (token.Keyword k ∷ rest) = false
 sees_sign s (token.Number n ∷ rest) = false
 sees_sign s (token.Sign t ∷ rest) = same_sign t s
 
+-- whether the next token is this reserved name
 abbrev pub sees_keyword : Keyword → List Token → Bool
 sees_keyword k [] = false
 sees_keyword k (token.Name w ∷ rest) = false
@@ -89,6 +97,7 @@ sees_keyword k (token.Keyword l ∷ rest) = same_keyword l k
 sees_keyword k (token.Number n ∷ rest) = false
 sees_keyword k (token.Sign s ∷ rest) = false
 
+-- whether the next token is a name
 abbrev pub sees_name : List Token → Bool
 sees_name [] = false
 sees_name (token.Name w ∷ rest) = true
@@ -96,12 +105,15 @@ sees_name (token.Keyword k ∷ rest) = false
 sees_name (token.Number n ∷ rest) = false
 sees_name (token.Sign s ∷ rest) = false
 
+-- this sign
 unfoldable pub sign : Sign → Parser (Unit {0})
 sign s tokens = if sees_sign s tokens then Ok (tt, drop 1 tokens) else Err tokens
 
+-- this reserved name
 unfoldable pub keyword : Keyword → Parser (Unit {0})
 keyword k tokens = if sees_keyword k tokens then Ok (tt, drop 1 tokens) else Err tokens
 
+-- any name
 unfoldable pub name : Parser (List ℕ)
 name [] = Err []
 name (token.Name w ∷ rest) = Ok (w, rest)
@@ -141,6 +153,7 @@ reference make = do
   f ← field
   pure (make w f)
 
+-- the value of a register, or of a field
 abbrev pub expr_of : List ℕ → Option (List ℕ) → Expr
 expr_of w None = expr.Word w
 expr_of w (Some f) = expr.Field w f
@@ -149,6 +162,7 @@ expr_of w (Some f) = expr.Field w f
 unfoldable pub name_or_field : Parser Expr
 name_or_field = reference expr_of
 
+-- a number that was read, or another form
 abbrev pub number_or : Parser Expr → Option ℤ → Parser Expr
 number_or other None = other
 number_or other (Some n) = pure (expr.Number n)
@@ -157,6 +171,7 @@ number_or other (Some n) = pure (expr.Number n)
 unfoldable pub term : Parser Expr
 term = eat_number >>= number_or name_or_field
 
+-- the operator that a sign writes
 abbrev pub operator_of : Sign → Option Op2
 operator_of signs.Plus = Some Add
 operator_of signs.Minus = Some Sub
@@ -187,35 +202,41 @@ chain operand zero left tokens = by_operator (next_operator tokens) left (λ _. 
 chain operand (suc n) left tokens =
     by_operator (next_operator tokens) left (λ op. and_then (operand (drop 1 tokens)) (λ right. chain operand n (expr.Two op left right))) tokens
 
+-- how many operators an expression has at most
 abbrev pub max_operators : ℕ
 max_operators = 32
 
+-- operands with operators between them
 unfoldable pub expression : Parser Expr
 expression = term >>= chain term max_operators
 
 -- ---- statements
 
+-- the register or the field that is written
 abbrev pub target_of : List ℕ → Option (List ℕ) → Target
-target_of w None = target.Word w
-target_of w (Some f) = target.Field w f
+target_of w None = targets.Word w
+target_of w (Some f) = targets.Field w f
 
 -- a register or a field
-unfoldable pub written : Parser Target
-written = reference target_of
+unfoldable pub target : Parser Target
+target = reference target_of
 
+-- a target, `=`, an expression, `;`
 unfoldable pub statement : Parser Stmt
 statement = do
-  to ← written
+  to ← target
   sign signs.Assign
   value ← expression
   sign signs.Semicolon
   pure (stmt.Set to value)
 
+-- the statements of a body
 unfoldable pub statements : Parser (List Stmt)
 statements = all_of sees_name statement
 
 -- ---- declarations
 
+-- `int`, a name, `;`
 unfoldable pub declared_name : Parser (List ℕ)
 declared_name = do
   keyword keywords.Int
@@ -223,17 +244,21 @@ declared_name = do
   sign signs.Semicolon
   pure w
 
+-- the fields of the packet
 unfoldable pub fields : Parser (List (List ℕ))
 fields = all_of (sees_keyword keywords.Int) declared_name
 
+-- a register's declaration
 unfoldable pub register : Parser Item
 register = do
   w ← declared_name
   pure (item.Array w None Absent)
 
+-- the registers before or after the struct
 unfoldable pub items : Parser (List Item)
 items = all_of (sees_keyword keywords.Int) register
 
+-- `struct`, a name, the fields in braces, `;`
 unfoldable pub packet : Parser PacketDecl
 packet = do
   keyword keywords.Struct
@@ -256,6 +281,7 @@ head = do
   sign signs.CloseRound
   pure (w, of, p)
 
+-- the function's head, and its statements in braces
 unfoldable pub function : Parser Function
 function = do
   names ← head
@@ -266,6 +292,7 @@ function = do
 
 -- ---- programs
 
+-- the items, the struct, the items and the function, and no token after them
 unfoldable pub parts : Parser (List Item × PacketDecl × List Item × Function)
 parts = do
   before ← items

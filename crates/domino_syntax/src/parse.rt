@@ -13,7 +13,9 @@ ghost use Rattle.domino_syntax.specs.Tokens.{is_token};
 
 use crate::fault::TextFault;
 use crate::reader::Reader;
-use domino_tree::{Expr, Function, Item, Keyword, PacketDecl, Program, Sign, Start, Stmt, Target, Token};
+use domino_tree::{
+    Expr, Function, Item, Keyword, PacketDecl, Program, Sign, Start, Stmt, Target, Token,
+};
 use mp5_words::{Name, Op2};
 use sqlite_items::{Boxed, Items};
 use std::alloc::{AllocError, Global};
@@ -84,9 +86,9 @@ fn expression(alloc: Global, reader: &mut Reader<'_>) -> Result<Expr, TextFault>
 }
 
 /// What an assignment writes: a register or a field.
-#[tactic(auto, unfolding(crate::specs::Reading::written))]
-fn written(alloc: Global, reader: &mut Reader<'_>) -> Result<Target, TextFault>
-    ensures { Reads (spec.written reader.old) result reader.new }
+#[tactic(auto, unfolding(crate::specs::Reading::target))]
+fn target(alloc: Global, reader: &mut Reader<'_>) -> Result<Target, TextFault>
+    ensures { Reads (spec.target reader.old) result reader.new }
 {
     let name = reader.name(alloc)?;
     match field(alloc, reader)? {
@@ -99,11 +101,11 @@ fn written(alloc: Global, reader: &mut Reader<'_>) -> Result<Target, TextFault>
 fn statement(alloc: Global, reader: &mut Reader<'_>) -> Result<Stmt, TextFault>
     ensures { Reads (spec.statement reader.old) result reader.new }
 {
-    let to = written(alloc, reader)?;
+    let target = target(alloc, reader)?;
     reader.sign(Sign::Assign)?;
     let value = expression(alloc, reader)?;
     reader.sign(Sign::Semicolon)?;
-    Ok(Stmt::Set(to, value))
+    Ok(Stmt::Set(target, value))
 }
 
 /// The statements of a body.

@@ -1,6 +1,5 @@
-use Rattle.std.proofs.Common.{◌≡◌, ◌-◌, ◌+◌, suc, Ok, Err, Some, drop, arith, ◌∙◌, sym, ap, subst}
-use Rattle.domino_tree.specs.declared.expr.Expr.TheVariants as expr
-use Rattle.domino_syntax.specs.Reading.{next_operator, term, expression, chain}
+use Rattle.std.proofs.Common.{◌≡◌, ◌-◌, ◌+◌, suc, Ok, Err, Some, drop, arith, ◌∙◌, sym, ap}
+use Rattle.domino_syntax.specs.Reading.{next_operator, term, expression}
 use Rattle.domino_syntax.proofs.Turns.{chain_turn, chain_refuses, chain_full, passes_on}
 use Rattle.domino_syntax.proofs.parse.expression.Goals as goal
 

@@ -1,6 +1,4 @@
-use Rattle.std.proofs.Common.{◌≡◌, List, true, Ok, Err, ap, sym, subst, ◌∙◌}
-use Rattle.std.specs.List.{list_all}
-use Rattle.domino_syntax.specs.Tokens.{is_token}
+use Rattle.std.proofs.Common.{ap, sym, ◌∙◌}
 use Rattle.domino_syntax.specs.Reading.{parts}
 use Rattle.domino_syntax.proofs.Turns.{refusal_from}
 use Rattle.domino_syntax.proofs.Deciding as deciding

@@ -1,4 +1,4 @@
-use Rattle.std.proofs.Common.{◌≡◌, ◌-◌, ◌+◌, suc, true, length, Ok, arith, ◌∙◌, sym, ap, subst}
+use Rattle.std.proofs.Common.{◌≡◌, ◌-◌, ◌+◌, suc, true, length, Ok, arith}
 use Rattle.domino_syntax.specs.Reading.{sees_name, statement}
 use Rattle.domino_syntax.proofs.Turns.{repeat_turn}
 use Rattle.domino_syntax.proofs.parse.statements.Goals as goal

@@ -1,4 +1,4 @@
-use Rattle.std.proofs.Common.{◌≡◌, true, ap, ◌∙◌}
+use Rattle.std.proofs.Common.{ap, ◌∙◌}
 use Rattle.std.specs.List.{list_all}
 use Rattle.domino_syntax.specs.Tokens.{is_token}
 use Rattle.domino_syntax.proofs.LexLemmas.{tokens_are_names}
