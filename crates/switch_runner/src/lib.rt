@@ -18,6 +18,7 @@ mod report;
 mod resolve;
 mod run;
 mod status;
+mod top;
 mod transfer;
 
 pub use edge::{FileStore, OutSink};
@@ -25,3 +26,4 @@ pub use fabric::{Fabric, NoFabric};
 pub use memory::{MemorySink, MemoryStore, NamedBytes, SureSink, SureStore};
 pub use outside::{Failed, Sink, Store, StoreFault};
 pub use status::{ProgramFault, Status};
+pub use top::switch_top;

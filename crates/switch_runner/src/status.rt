@@ -50,3 +50,40 @@ pub enum Status {
     /// Memory ran out.
     NoMemory,
 }
+
+impl Status {
+    ghost use Rattle.switch_runner.specs.Causes as causes;
+
+    /// The exit status of the process: 0 for Done, 2 for Words, 3 for Program, 4 for Capture, 5 for
+    /// ReadFault, 6 for WriteFault and 7 for NoMemory.
+    pub fn code(&self) -> u8
+        ensures { result ≡ causes.code self.now }
+    {
+        match self {
+            Status::Done => 0,
+            Status::Words => 2,
+            Status::Program(_) => 3,
+            Status::Capture(_) => 4,
+            Status::ReadFault => 5,
+            Status::WriteFault => 6,
+            Status::NoMemory => 7,
+        }
+    }
+
+    /// The line that tells of the status; nothing for Done.
+    pub(crate) fn line(&self) -> &'static [u8]
+        ensures { result.now ≡ causes.line self.now }
+    {
+        match self {
+            Status::Done => b"",
+            Status::Words => b"mp5: words\n",
+            Status::Program(ProgramFault::NotYet) => b"mp5: program 40\n",
+            Status::Capture(CaptureFault::NotYet) => b"mp5: capture 40\n",
+            Status::ReadFault => b"mp5: read fault\n",
+            Status::WriteFault => b"mp5: write fault\n",
+            Status::Program(ProgramFault::NoMemory)
+            | Status::Capture(CaptureFault::NoMemory)
+            | Status::NoMemory => b"mp5: no memory\n",
+        }
+    }
+}

@@ -1,0 +1,2 @@
+//! Rows that cross crates: the top call over stores and sinks in memory, with answers worked out by hand.
+#![tactic(auto)]
