@@ -1,2 +1,7 @@
 //! Rows that cross crates: the top call over stores and sinks in memory, with answers worked out by hand.
 #![tactic(auto)]
+
+#[cfg(test)]
+mod fixture;
+#[cfg(test)]
+mod runs;
