@@ -11,7 +11,7 @@ use switch_runner::{MemorySink, MemoryStore, NamedBytes, NoFabric, Status, Store
 pub(crate) const COUNT: &str =
     "struct Packet { int sport; int n; }; int c; void count(struct Packet p) { c = c + 1; p.n = c; }";
 
-/// What `COUNT` gives on packets from the ports 10, 20 and 30.
+/// What `COUNT` gives on packets from the ports 10, 20 and 30: 72 bytes.
 pub(crate) const COUNTED: &str =
     "pkt 0 sport=10 n=1\npkt 1 sport=20 n=2\npkt 2 sport=30 n=3\nreg c=3\ndone 3\n";
 
@@ -56,6 +56,15 @@ pub(crate) fn packets(alloc: Global, ports: &[u16]) -> Result<Vec<u8>, AllocErro
     Ok(capture)
 }
 
+/// So many declarations of names that begin with this letter.
+fn numbered(alloc: Global, letter: char, count: u8) -> Result<String, AllocError> {
+    let mut text = String::new(alloc);
+    for i in 0..count {
+        write!(text, "int {letter}{i}; ")?;
+    }
+    Ok(text)
+}
+
 /// A program with so many fields `f0`, `f1` and so on, so many registers `a0` and so on before the
 /// struct and `b0` and so on after it, and this body.
 pub(crate) fn wide_program(
@@ -65,29 +74,10 @@ pub(crate) fn wide_program(
     after: u8,
     body: &str,
 ) -> Result<String, AllocError> {
-    let mut text = String::new(alloc);
-    for i in 0..before {
-        write!(text, "int a{i}; ")?;
-    }
-    text.push_str("struct P { ")?;
-    for i in 0..fields {
-        write!(text, "int f{i}; ")?;
-    }
-    text.push_str("}; ")?;
-    for i in 0..after {
-        write!(text, "int b{i}; ")?;
-    }
-    write!(text, "void f(struct P p) {{ {body} }}")?;
-    Ok(text)
-}
-
-/// The words of a command line.
-pub(crate) fn words_of(alloc: Global, words: &[&str]) -> Result<Vec<String>, AllocError> {
-    let mut all = Vec::new(alloc);
-    for word in words {
-        all.push(String::from_str(alloc, word)?)?;
-    }
-    Ok(all)
+    let fields = numbered(alloc, 'f', fields)?;
+    let before = numbered(alloc, 'a', before)?;
+    let after = numbered(alloc, 'b', after)?;
+    format!(in alloc; "{before}struct P {{ {fields}}}; {after}void f(struct P p) {{ {body} }}")
 }
 
 /// A file of this name.
@@ -114,7 +104,19 @@ pub(crate) fn store_of(
 pub(crate) fn sink(alloc: Global, most: u32, fails: &[u64]) -> Result<MemorySink, AllocError>
     requires { 0 < most }
 {
-    Ok(MemorySink::new(Vec::new(alloc), most, Vec::from_slice(alloc, fails)?))
+    let fails = Vec::from_slice(alloc, fails)?;
+    Ok(MemorySink::new(Vec::new(alloc), most, fails))
+}
+
+/// The words of a command line, which stand between single spaces; none for an empty line.
+pub(crate) fn words_of(alloc: Global, line: &str) -> Result<Vec<String>, AllocError> {
+    let mut words = Vec::new(alloc);
+    if !line.is_empty() {
+        for word in line.split(' ') {
+            words.push(String::from_str(alloc, word)?)?;
+        }
+    }
+    Ok(words)
 }
 
 /// A call that has ended.
@@ -125,15 +127,15 @@ pub(crate) struct Ended {
     pub(crate) err: MemorySink,
 }
 
-/// Calls the switch.
+/// Calls the switch with these words.
 pub(crate) fn call<S: Store>(
     alloc: Global,
-    words: &[&str],
+    line: &str,
     store: &mut S,
     out: MemorySink,
     err: MemorySink,
 ) -> Result<Ended, AllocError> {
-    let words = words_of(alloc, words)?;
+    let words = words_of(alloc, line)?;
     let mut out = out;
     let mut err = err;
     let status = switch_top(alloc, &words, store, &mut out, &mut err, &mut NoFabric);
@@ -145,7 +147,7 @@ pub(crate) fn run(alloc: Global, program: &[u8], capture: &[u8]) -> Result<Ended
     let mut store = store_of(alloc, program, capture, 65536, &[])?;
     let out = sink(alloc, 65536, &[])?;
     let err = sink(alloc, 65536, &[])?;
-    call(alloc, &["mp5", "one", "p", "c"], &mut store, out, err)
+    call(alloc, "mp5 one p c", &mut store, out, err)
 }
 
 /// What a sink has taken.
@@ -153,7 +155,7 @@ pub(crate) fn text_of(sink: &MemorySink) -> &str {
     str::from_utf8(sink.bytes()).unwrap_or("not UTF-8")
 }
 
-/// The line on the errors' sink for the status of this code.
+/// The line for the status of this code.
 fn line_of(code: u8) -> &'static str {
     match code {
         0 => "",
@@ -166,7 +168,7 @@ fn line_of(code: u8) -> &'static str {
     }
 }
 
-/// The call has ended with this code, this output, and the code's line.
+/// The call has ended with this code, this output and the code's line.
 pub(crate) fn assert_ended(rt: &impl Abort, ended: &Ended, code: u8, out: &str, at: &str) {
     assert_eq!(rt; ended.status.code(), code, "at {at}");
     assert_eq!(rt; text_of(&ended.out), out, "at {at}");

@@ -2,6 +2,10 @@
 #![tactic(auto)]
 
 #[cfg(test)]
+mod causes;
+#[cfg(test)]
 mod fixture;
+#[cfg(test)]
+mod readers;
 #[cfg(test)]
 mod runs;

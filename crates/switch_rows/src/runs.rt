@@ -14,7 +14,7 @@ fn run_on(alloc: Global, program: &str, ports: &[u16]) -> Result<Ended, AllocErr
 #[test]
 fn runs(rt: HostRuntime) -> Result<(), Fail> {
     let alloc = rt.alloc();
-    let rows: [(&str, &[u16], &str); 13] = [
+    let rows: [(&str, &[u16], &str); 12] = [
         (COUNT, &[10, 20, 30], COUNTED),
         (COUNT, &[], "done 0\n"),
         (
@@ -22,7 +22,6 @@ fn runs(rt: HostRuntime) -> Result<(), Fail> {
             &[10, 20],
             "pkt 0 sport=10 n=1\npkt 1 sport=20 n=2\nreg c=2\ndone 2\n",
         ),
-        ("struct P { }; void f(struct P p) { }", &[], "done 0\n"),
         (
             "struct P { }; void f(struct P p) { }",
             &[1, 2],
@@ -67,7 +66,7 @@ fn runs(rt: HostRuntime) -> Result<(), Fail> {
             &[3, 3],
             "pkt 0 n=0\npkt 1 n=5\nreg len=5\ndone 2\n",
         ),
-        // -1 - (-2147483648) is 2147483647; one more wraps to -2147483648, which goes on to the next.
+        // c is -1 - 0 - (-2147483648), and then -1 - 2147483647 - (-2147483648); the sum before wraps.
         (
             "struct P { int n; }; int c; void f(struct P p) { c = 4294967295 - c - 2147483648 + p.n; p.n = c + 1; }",
             &[0, 0],
