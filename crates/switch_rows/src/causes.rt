@@ -81,7 +81,7 @@ fn reads_that_fail(rt: HostRuntime) -> Result<(), Fail> {
         let ended = call(alloc, "mp5 one p c", &mut store, out, err)?;
         let at = format!(in alloc; "read {failing}")?;
         if matches!(ended.status, Status::ReadFault) {
-            assert_eq!(rt; failing, reached + 1);
+            assert_eq!(rt; reached, failing - 1);
             reached = failing;
             assert_ended(&rt, &ended, 5, "", &at);
         } else {

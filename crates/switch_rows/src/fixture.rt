@@ -29,10 +29,10 @@ pub(crate) const FRAME: [u8; 42] = [
 
 /// Adds a record of this frame, at second 1, to a capture.
 pub(crate) fn push_record(capture: &mut Vec<u8>, frame: &[u8]) -> Result<(), AllocError> {
-    let length = (frame.len() as u32).to_le_bytes();
+    let length = (frame.len() as u64).to_le_bytes();
     capture.extend_from_slice(&[1, 0, 0, 0, 0, 0, 0, 0])?;
-    capture.extend_from_slice(&length)?;
-    capture.extend_from_slice(&length)?;
+    capture.extend_from_slice(&length[..4])?;
+    capture.extend_from_slice(&length[..4])?;
     capture.extend_from_slice(frame)
 }
 

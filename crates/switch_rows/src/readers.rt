@@ -89,7 +89,7 @@ fn texts(rt: HostRuntime) -> Result<(), Fail> {
             "|c = d; p.n = p.m;|c=1-1+1-p.n-c;|p . n = 1 ; p\t.\n\n m = p.\rn;
             |c = 0; c = 10; c = 2147483648; c = 4294967295;",
         ),
-        // Numbers: with 2 to the power of 32, of 64 and 1 more, and of 128 and 1 more.
+        // Numbers, with 2 to the power of 32, that of 64 and 1 more, and that of 128 and 1 more.
         (
             STATEMENT,
             PROGRAM,
@@ -182,7 +182,7 @@ fn limits(rt: HostRuntime) -> Result<(), Fail> {
 fn padded(alloc: Global, before: usize, length: usize) -> Result<Vec<u8>, AllocError> {
     let mut text = vec![in alloc; b' '; before]?;
     text.extend_from_slice(COUNT.as_bytes())?;
-    while text.len() < length {
+    for _ in text.len()..length {
         text.push(b' ')?;
     }
     Ok(text)
@@ -313,10 +313,8 @@ fn edited_captures(rt: HostRuntime) -> Result<(), Fail> {
     ];
     for (place, bytes, packets) in rows {
         let mut capture = capture_of(alloc, &FRAME)?;
-        for (i, byte) in bytes.iter().enumerate() {
-            if let Some(old) = capture.get_mut(place + i) {
-                *old = *byte;
-            }
+        for (old, new) in capture.iter_mut().skip(place).zip(bytes) {
+            *old = *new;
         }
         let at = format!(in alloc; "{bytes:?} at {place}")?;
         assert_capture(&rt, alloc, &capture, packets, &at)?;
