@@ -3,7 +3,7 @@
 .PHONY: run test
 
 run:
-	cd crates/mp5 && rt run -- one ../../examples/count.domino ../../examples/count.pcap
+	@cd crates/mp5 && rt run -- one ../../examples/count.domino ../../examples/count.pcap
 
 test:
 	rt ci
