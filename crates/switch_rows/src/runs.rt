@@ -1,0 +1,192 @@
+//! Programs on captures, with the reports that they give.
+use crate::fixture::{
+    COUNT, COUNTED, Ended, FRAME, assert_ended, capture_of, packets, run, wide_program,
+};
+use std::alloc::{AllocError, Global};
+use std::test::Fail;
+
+// A run on packets from these ports.
+fn run_on(alloc: Global, program: &str, ports: &[u16]) -> Result<Ended, AllocError> {
+    let capture = packets(alloc, ports)?;
+    run(alloc, program.as_bytes(), &capture)
+}
+
+#[test]
+fn runs(rt: HostRuntime) -> Result<(), Fail> {
+    let alloc = rt.alloc();
+    let rows: [(&str, &[u16], &str); 12] = [
+        (COUNT, &[10, 20, 30], COUNTED),
+        (COUNT, &[], "done 0\n"),
+        (
+            COUNT,
+            &[10, 20],
+            "pkt 0 sport=10 n=1\npkt 1 sport=20 n=2\nreg c=2\ndone 2\n",
+        ),
+        (
+            "struct P { }; void f(struct P p) { }",
+            &[1, 2],
+            "pkt 0\npkt 1\ndone 2\n",
+        ),
+        // b stays 0, and d is 1 and then 0 again.
+        (
+            "struct P { int sport; }; int a; int b; int c; int d; void f(struct P p) { a = a + 2; c = c - p.sport; d = 1 - d; }",
+            &[7, 65535],
+            "pkt 0 sport=7\npkt 1 sport=65535\nreg a=4\nreg c=-65542\ndone 2\n",
+        ),
+        (
+            "int z; int y; struct P { int n; }; int b; int a; void f(struct P p) { a = a + 1; z = z + 10; y = 3; b = 4; p.n = a + z; }",
+            &[1, 1],
+            "pkt 0 n=11\npkt 1 n=22\nreg z=20\nreg y=3\nreg b=4\nreg a=2\ndone 2\n",
+        ),
+        // Each packet's fields start anew, and a statement sees what those before it gave.
+        (
+            "struct P { int sport; int m; int n; }; void f(struct P p) { p.n = p.n + 1; p.m = p.n + p.sport; p.sport = p.sport + p.m; }",
+            &[4, 5],
+            "pkt 0 sport=9 m=5 n=1\npkt 1 sport=11 m=6 n=1\ndone 2\n",
+        ),
+        (
+            "struct P { int n; int sport; }; int c; void f(struct P p) { p.n = c; c = p.sport; }",
+            &[4, 9],
+            "pkt 0 n=0 sport=4\npkt 1 n=4 sport=9\nreg c=9\ndone 2\n",
+        ),
+        // A register and a field of one name.
+        (
+            "struct P { int n; }; int n; void f(struct P p) { n = n + 7; p.n = n + n - p.n; }",
+            &[0],
+            "pkt 0 n=14\nreg n=7\ndone 1\n",
+        ),
+        (
+            "struct P { int sport; int dport; int sPort; int sport2; }; void f(struct P p) { }",
+            &[3],
+            "pkt 0 sport=3 dport=20 sPort=0 sport2=0\ndone 1\n",
+        ),
+        // A register may have the name of a field that a frame fills.
+        (
+            "struct P { int n; }; int sport; int len; void f(struct P p) { p.n = sport + len; len = 5; }",
+            &[3, 3],
+            "pkt 0 n=0\npkt 1 n=5\nreg len=5\ndone 2\n",
+        ),
+        // c is -1 - 0 - (-2147483648), and then -1 - 2147483647 - (-2147483648); the sum before wraps.
+        (
+            "struct P { int n; }; int c; void f(struct P p) { c = 4294967295 - c - 2147483648 + p.n; p.n = c + 1; }",
+            &[0, 0],
+            "pkt 0 n=-2147483648\npkt 1 n=1\ndone 2\n",
+        ),
+    ];
+    for (program, ports, want) in rows {
+        assert_ended(&rt, &run_on(alloc, program, ports)?, 0, want, program);
+    }
+    Ok(())
+}
+
+// The value of an expression without names, read as the field `n` of a packet.
+#[test]
+fn computes(rt: HostRuntime) -> Result<(), Fail> {
+    let alloc = rt.alloc();
+    for (expression, value) in [
+        ("10 - 3 - 2", "5"),
+        ("10 - 3 + 2", "9"),
+        ("1 - 2 + 3 - 4", "-2"),
+        ("2147483647", "2147483647"),
+        ("2147483648", "-2147483648"),
+        ("4294967295", "-1"),
+        ("2147483647 + 1", "-2147483648"),
+        ("2147483648 - 1", "2147483647"),
+        ("0 - 2147483648", "-2147483648"),
+        ("0 - 4294967295", "1"),
+        ("2147483648 + 2147483648", "0"),
+        ("0 - 2147483647 - 2", "2147483647"),
+    ] {
+        let program = format!(in alloc;
+            "struct P {{ int n; }}; void f(struct P p) {{ p.n = {expression}; }}"
+        )?;
+        let want = format!(in alloc; "pkt 0 n={value}\ndone 1\n")?;
+        assert_ended(&rt, &run_on(alloc, &program, &[1])?, 0, &want, expression);
+    }
+    let program = wide_program(alloc, 32, 8, 8, "p.f31 = 7; b7 = p.f31 - 9; a0 = 1;")?;
+    let mut want = String::from_str(alloc, "pkt 0")?;
+    for i in 0..31u8 {
+        write!(want, " f{i}=0")?;
+    }
+    want.push_str(" f31=7\nreg a0=1\nreg b7=-2\ndone 1\n")?;
+    assert_ended(&rt, &run_on(alloc, &program, &[1])?, 0, &want, "wide");
+    Ok(())
+}
+
+// A frame of IPv4 behind these tags, with this first byte of its header, these flags and fragment
+// offset, this protocol and these options, from port 10 to port 20.
+fn frame_of(
+    alloc: Global,
+    tags: &[u8],
+    head: u8,
+    fragment: u16,
+    protocol: u8,
+    options: &[u8],
+) -> Result<Vec<u8>, AllocError> {
+    let mut frame = Vec::from_slice(alloc, &FRAME[..12])?;
+    frame.extend_from_slice(tags)?;
+    frame.extend_from_slice(&[8, 0, head, 0, 0, 28, 0, 0])?;
+    frame.extend_from_slice(&fragment.to_be_bytes())?;
+    frame.extend_from_slice(&[64, protocol, 0, 0, 10, 0, 0, 1, 10, 0, 0, 2])?;
+    frame.extend_from_slice(options)?;
+    frame.extend_from_slice(&[0, 10, 0, 20, 0, 8, 0, 0])?;
+    Ok(frame)
+}
+
+const PORTS: &str = "struct P { int dport; int sport; }; void f(struct P p) { }";
+
+#[test]
+fn reads_frames(rt: HostRuntime) -> Result<(), Fail> {
+    let alloc = rt.alloc();
+    let rows: [(&[u8], u8, u16, u8, &[u8], u8, u8); 20] = [
+        (&[], 0x45, 0, 17, &[], 10, 20),
+        (&[], 0x45, 0, 6, &[], 10, 20),
+        (&[], 0x45, 0, 1, &[], 0, 0),
+        (&[0x81, 0, 0, 5], 0x45, 0, 17, &[], 10, 20),
+        (&[0x88, 0xa8, 0, 5], 0x45, 0, 17, &[], 10, 20),
+        (&[0x88, 0xa8, 0, 5, 0x81, 0, 8, 0], 0x45, 0, 17, &[], 10, 20),
+        (
+            &[0x81, 0, 0, 5, 0x81, 0, 0, 6, 0x81, 0, 0, 7],
+            0x45,
+            0,
+            6,
+            &[],
+            10,
+            20,
+        ),
+        // Another tag, and ARP.
+        (&[0x91, 0, 0, 5], 0x45, 0, 17, &[], 0, 0),
+        (&[8, 6], 0x45, 0, 17, &[], 0, 0),
+        // The three flags aren't looked at; a later fragment has no ports.
+        (&[], 0x45, 0xe000, 17, &[], 10, 20),
+        (&[], 0x45, 185, 17, &[], 0, 0),
+        (&[], 0x45, 0x1000, 17, &[], 0, 0),
+        (&[], 0x45, 1, 6, &[], 0, 0),
+        // Headers of 16, 0, 24 and 60 bytes. The version isn't looked at.
+        (&[], 0x44, 0, 17, &[], 0, 0),
+        (&[], 0x40, 0, 17, &[], 0, 0),
+        (&[], 0x46, 0, 17, &[1, 2, 3, 4], 10, 20),
+        (&[], 0x4f, 0, 17, &[9; 40], 10, 20),
+        (&[], 0x65, 0, 17, &[], 10, 20),
+        // The ports are looked for four bytes too late, and past the end.
+        (&[], 0x46, 0, 17, &[], 8, 0),
+        (&[], 0x47, 0, 17, &[], 0, 0),
+    ];
+    for (tags, head, fragment, protocol, options, sport, dport) in rows {
+        let frame = frame_of(alloc, tags, head, fragment, protocol, options)?;
+        let ended = run(alloc, PORTS.as_bytes(), &capture_of(alloc, &frame)?)?;
+        let want = format!(in alloc; "pkt 0 dport={dport} sport={sport}\ndone 1\n")?;
+        let at = format!(in alloc; "{tags:?} {head} {fragment} {protocol} {options:?}")?;
+        assert_ended(&rt, &ended, 0, &want, &at);
+    }
+    // The source port is whole from 36 bytes on, and the destination port from 38 on.
+    for end in 0..43usize {
+        let frame = FRAME.get(..end).unwrap_or(&FRAME);
+        let ended = run(alloc, PORTS.as_bytes(), &capture_of(alloc, frame)?)?;
+        let sport = if end < 36 { 0u8 } else { 10 };
+        let dport = if end < 38 { 0u8 } else { 20 };
+        let want = format!(in alloc; "pkt 0 dport={dport} sport={sport}\ndone 1\n")?;
+        assert_ended(&rt, &ended, 0, &want, "a frame that is cut");
+    }
+    Ok(())
+}
