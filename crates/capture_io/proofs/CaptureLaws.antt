@@ -1,5 +1,5 @@
 -- The records that are read are those that the bytes are.
-use Rattle.std.proofs.Common.{◌≡◌, ℕ, zero, suc, ◌<◌, ◌≤◌, false, ltb, List, [], ◌∷◌, ◌++◌, length, Option, Some, refl, sym, ap, subst, ◌∙◌, arith}
+use Rattle.std.proofs.Common.{◌≡◌, ℕ, zero, suc, ◌<◌, ◌≤◌, false, ltb, List, [], ◌∷◌, ◌++◌, length, Some, refl, sym, ap, subst, ◌∙◌, arith}
 use Rattle.std.specs.Prelude.{option_map, option_and_then}
 use Rattle.std.proofs.lemmas.Bool.{ltb-false, le-ltb}
 use Rattle.std.proofs.lemmas.List.{length-append}
@@ -9,15 +9,13 @@ use Rattle.capture_io.specs.Reading.{after_file_header, record_at, records_of, c
 use Rattle.capture_io.proofs.Options.{past_refusal, of_then, of_map}
 use Rattle.capture_io.proofs.RecordLaws.{file_header_found, file_header_again, record_found, record_again}
 
--- the first record, and the others
-pub first_and_others : ℕ → Option (Record × List ℕ) → Option (List Record)
-first_and_others n read = option_and_then (λ first. option_map (λ others. first.0 ∷ others) (records_of n first.1)) read
-
+-- where bytes are left, a record is read first
 pub records_step : (n : ℕ) (bytes : List ℕ) → 0 < length bytes → records_of (suc n) bytes ≡ option_and_then (λ first. option_map (λ others. first.0 ∷ others) (records_of n first.1)) (record_at bytes)
 unfolding records_of
 records_step n [] some = absurd (omega arith)
 records_step n (b ∷ bytes) some = refl
 
+-- what is read of the records is what the bytes are, and what they are is read
 pub records_found : (n : ℕ) (bytes : List ℕ) (rs : List Record) → records_of n bytes ≡ Some rs → AreRecords bytes rs × (length rs ≤ n)
 unfolding records_of
 records_found n [] rs e = subst (λ (x : List Record). AreRecords [] x × (length x ≤ n)) (same_Some [] rs e) (refl, omega arith)

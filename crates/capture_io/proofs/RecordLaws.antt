@@ -1,5 +1,5 @@
 -- What is read of a file header and of a record is what stands there, and what stands there is read.
-use Rattle.std.proofs.Common.{◌≡◌, ℕ, ◌<◌, ◌≤◌, ◌%◌, true, false, cond, ltb, eqb, ◌&&◌, ◌||◌, List, [], ◌∷◌, ◌++◌, length, take, drop, Option, Some, None, bytes_eq, refl, sym, ap, subst, ◌∙◌, arith}
+use Rattle.std.proofs.Common.{◌≡◌, ℕ, ◌≤◌, ◌%◌, true, false, cond, ltb, eqb, ◌&&◌, ◌||◌, List, [], ◌∷◌, ◌++◌, length, take, drop, Option, Some, None, bytes_eq, refl, sym, ap, subst, ◌∙◌, arith}
 use Rattle.std.specs.Prelude.{option_map}
 use Rattle.std.proofs.lemmas.Bool.{ltb-false, le-ltb, eqb-true, eq-eqb, and_parts, and_from, or_parts, cond-true}
 use Rattle.std.proofs.lemmas.List.{take_at, drop_at, take-append-drop, length-append, length-take}
@@ -83,12 +83,6 @@ record_again head r rest h =
     let frame : take (length r.frame) (r.frame ++ rest) ≡ r.frame = take_at r.frame rest (length r.frame) refl in
     let after : drop (length r.frame) (r.frame ++ rest) ≡ rest = drop_at r.frame rest (length r.frame) refl in
     rw (long, front, back) (rw (h.captured, small, whole, frame, after, h.seconds, h.fraction, h.original) refl)
-
--- a record takes its header at least
-pub record_shorter : (bytes : List ℕ) (x : Record × List ℕ) → record_at bytes ≡ Some x → (length x.0.frame ≤ 262144) × (length x.1 < length bytes)
-record_shorter bytes x e =
-    let f = record_found bytes x e in
-    (f.1.limit, omega (arith, ap length f.2, length-append f.0 (x.0.frame ++ x.1), length-append x.0.frame x.1, f.1.size))
 
 -- the frame and the rest, of a record that is there
 pub record_of : (o : Option (Record × List ℕ)) (frame after : List ℕ) → ◌≡◌ {A = Option (List ℕ × List ℕ)} (Some (frame, after)) (option_map (λ x. (x.0.frame, x.1)) o) → (r : Record) × (o ≡ Some (r, after)) × (r.frame ≡ frame)

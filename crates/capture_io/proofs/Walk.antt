@@ -16,12 +16,6 @@ counted sources read = option_map (λ rs. (words sources rs, length rs)) read
 abbrev pub with_front : List ℤ → ℕ → Option (List ℤ × ℕ) → Option (List ℤ × ℕ)
 with_front ws n read = option_map (λ x. (ws ++ x.0, n + x.1)) read
 
-pub starts : (read : Option (List ℤ × ℕ)) → with_front [] 0 read ≡ read
-starts None = refl
-starts (Some x) =
-    let none : 0 + x.1 ≡ x.1 = omega arith in
-    rw none refl
-
 regroup : (sources : List Source) (ws : List ℤ) (n : ℕ) (r : Record) (read : Option (List Record)) → with_front ws n (counted sources (option_map (λ others. r ∷ others) read)) ≡ with_front (ws ++ fields sources r) (n + 1) (counted sources read)
 regroup sources ws n r None = refl
 regroup sources ws n r (Some rs) =

@@ -46,7 +46,8 @@ pub fn ports_of(frame: &[u8]) -> Ports
 // What an IPv4 header begins, if the frame has one.
 fn ipv4(frame: &[u8]) -> Option<&[u8]>
     requires { length frame.now ≤ 262144 }
-    ensures { MatchOption result (header.has_ipv4 frame.now ≡ false) (λ packet. (header.has_ipv4 frame.now ≡ true) × (packet.now ≡ header.ipv4 frame.now)) }
+    ensures { MatchOption result (header.has_ipv4 frame.now ≡ false)
+        (λ packet. (header.has_ipv4 frame.now ≡ true) × (packet.now ≡ header.ipv4 frame.now)) }
 {
     let at = type_at(frame);
     if number16_at(frame, at) == IPV4 {

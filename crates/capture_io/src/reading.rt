@@ -33,7 +33,8 @@ pub fn read_capture(
     names: &FieldNames,
 ) -> Result<Capture, CaptureFault>
     // What is read are the fields of the records that the bytes are.
-    ensures read { IfOk result (λ capture. (records : List Record) × IsCapture bytes.now records × (capture ≡ headers names.now records)) }
+    ensures read { IfOk result (λ capture.
+        (records : List Record) × IsCapture bytes.now records × (capture ≡ headers names.now records)) }
     // Bytes are refused only where they are no capture, or memory ran out.
     ensures not_yet { IsErrOf result CaptureFault.NotYet → (records : List Record) → ¬ (IsCapture bytes.now records) }
     // No bytes are two captures.
@@ -68,7 +69,8 @@ fn words_of(
     bytes: &[u8],
     sources: &[Source],
 ) -> Result<(Vec<i32>, u32), CaptureFault>
-    ensures { Gives {Y = List ℤ × ℕ} (λ x. (x.0.items, x.1)) result (option_map (λ rs. (spec.words sources.now rs, length rs)) (records_of 262144 bytes.now)) }
+    ensures { Gives {Y = List ℤ × ℕ} (λ x. (x.0.items, x.1)) result
+        (option_map (λ rs. (spec.words sources.now rs, length rs)) (records_of 262144 bytes.now)) }
 {
     let mut words = Vec::new(alloc);
     let mut count = 0;

@@ -46,7 +46,8 @@ fn is_file_header(head: &[u8]) -> bool
 /// The frame of the record at the front and the bytes after it, if a whole record begins the bytes.
 #[tactic(auto, unfolding(crate::specs::Reading::record_at))]
 pub fn record_at(bytes: &[u8]) -> Option<(&[u8], &[u8])>
-    ensures parts { option_map {U = List ℕ × List ℕ} (λ x. (x.0.now, x.1.now)) result ≡ option_map (λ x. (x.0.frame, x.1)) (spec.record_at bytes.now) }
+    ensures parts { option_map {U = List ℕ × List ℕ} (λ x. (x.0.now, x.1.now)) result
+        ≡ option_map (λ x. (x.0.frame, x.1)) (spec.record_at bytes.now) }
     ensures limit { IfSome result (λ x. length x.0.now ≤ 262144) }
     ensures shorter { IfSome result (λ x. length x.1.now < length bytes.now) }
 {

@@ -1,4 +1,4 @@
--- Which texts are read, and to which program.
+-- Which texts are read, and to which program: the thin texts, those of the grammar's few forms.
 use Rattle.std.specs.Prelude.{◌≡◌, ◌≤◌, ℕ, List, length, Some}
 use Rattle.domino_tree.specs.declared.program.Program.{Program}
 use Rattle.domino_tree.specs.Derives.{Derives}

@@ -23,10 +23,11 @@ abbrev pub is_decimal : List ℕ → Bool
 is_decimal [] = false
 is_decimal (b ∷ bs) = list_all is_ascii_digit (b ∷ bs) && ((nat_eq b 48 && nat_eq (length bs) 0) || nat_le 49 b)
 
--- a number is the word with its bits
+-- decimal digits up to 4,294,967,295 are a number, which is the word with its bits: 4,294,967,295 is -1
 unfoldable pub number : List ℕ → Option Token
 number w = if is_decimal w && nat_le (digits_value 10 w) 4294967295 then Some (token.Number (word (pos (digits_value 10 w)))) else None
 
+-- a reserved name, or else a name
 unfoldable pub name : List ℕ → Token
 name w =
     if bytes_eq w (codes "struct") then token.Keyword keyword.Struct else (

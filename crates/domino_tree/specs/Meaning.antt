@@ -18,6 +18,7 @@ pub record Names : Type 0 where
   pub fields : List (List ℕ)
   pub cells : List (List ℕ)
 
+-- those of a program: its registers may stand before the struct and after it
 abbrev pub names_of : Program → Names
 names_of p = record { fields = p.packet.fields; cells = map item_name (p.before ++ p.after) }
 
@@ -35,6 +36,7 @@ place_of name (n ∷ ns) = if bytes_eq name n then 0 else suc (place_of name ns)
 abbrev pub word_at : List ℤ → ℕ → ℤ
 word_at words place = slice_index_or words place (pos 0)
 
+-- the value of a form, from those of its operands; a field's own name says which it is
 abbrev pub meaning : Names → Expr-F (State → ℤ) → State → ℤ
 meaning names (Expr-F.Number n) s = n
 meaning names (Expr-F.Word w) s = word_at s.cells (place_of w names.cells)
@@ -45,6 +47,7 @@ meaning names (Expr-F.Two op a b) s = op2 op (a s) (b s)
 abbrev pub value : Names → Expr → State → ℤ
 value names = fold-Expr (State → ℤ) (meaning names)
 
+-- the state after a target is given a word
 abbrev pub assigned : Names → Target → ℤ → State → State
 assigned names (target.Word w) z s = record s { cells = slice_set s.cells (place_of w names.cells) z }
 assigned names (target.Field p f) z s = record s { fields = slice_set s.fields (place_of f names.fields) z }

@@ -2,21 +2,26 @@
 #![tactic(auto)]
 
 use std::env;
+use std::io::ErrorKind;
 use std::process::ExitCode;
-use switch_runner::{FileStore, NoFabric, OutSink, switch_top};
+use switch_runner::{FileStore, NoFabric, OutSink, Status, switch_top};
 
-/// The words of the command line; none where one of them isn't UTF-8.
-fn words(rt: &HostRuntime) -> Vec<String> {
-    let none = Vec::new(rt.alloc());
+/// The words of the command line: no words where one of them isn't UTF-8, and nothing where memory ran
+/// out.
+fn words(rt: &HostRuntime) -> Option<Vec<String>> {
     match env::args(rt) {
-        Ok(args) => args.collect(rt.alloc()).unwrap_or(none),
-        Err(_) => none,
+        Ok(args) => args.collect(rt.alloc()).ok(),
+        Err(error) if error.kind() == ErrorKind::OutOfMemory => None,
+        Err(_) => Some(Vec::new(rt.alloc())),
     }
 }
 
 fn main(rt: HostRuntime) -> ExitCode {
     let alloc = rt.alloc();
-    let words = words(&rt);
+    let Some(words) = words(&rt) else {
+        let _ = rt.eprintln("mp5: no memory");
+        return ExitCode::from(Status::NoMemory.code());
+    };
     let mut out = OutSink::output(rt.stdout());
     let mut err = OutSink::errors(rt.stderr());
     let mut store = FileStore::new(rt);

@@ -83,3 +83,33 @@ impl FieldNames {
         &self.names[i as usize]
     }
 }
+
+#[cfg(test)]
+mod tests {
+    use super::*;
+    use std::alloc::{AllocError, Global};
+    use std::test::Fail;
+
+    fn named(alloc: Global, text: &str) -> Result<Name, AllocError> {
+        Ok(Name::new(Vec::from_slice(alloc, text.as_bytes())?))
+    }
+
+    #[test]
+    fn names_keep_their_bytes(rt: HostRuntime) -> Result<(), Fail> {
+        let sport = named(rt.alloc(), "sport")?;
+        assert_eq!(rt; sport.bytes(), b"sport".as_slice());
+        for (text, want) in [
+            ("sport", true),
+            ("dport", false),
+            ("sports", false),
+            ("", false),
+        ] {
+            assert_eq!(rt; sport.is_same(&named(rt.alloc(), text)?), want, "at {text}");
+        }
+        let fields = FieldNames::new(vec![in rt.alloc(); sport, named(rt.alloc(), "n")?]?);
+        assert_eq!(rt; fields.count(), 2);
+        assert_eq!(rt; fields.name(0).bytes(), b"sport".as_slice());
+        assert_eq!(rt; fields.name(1).bytes(), b"n".as_slice());
+        Ok(())
+    }
+}

@@ -19,3 +19,24 @@ pub fn apply2(op: Op2, a: i32, b: i32) -> i32
         Op2::Sub => a.wrapping_sub(b),
     }
 }
+
+#[cfg(test)]
+mod tests {
+    use super::*;
+
+    #[test]
+    fn wraps_at_the_edges(rt: HostRuntime) {
+        for (op, a, b, want) in [
+            (Op2::Add, 2, 3, 5),
+            (Op2::Add, 2147483647, 1, -2147483648),
+            (Op2::Add, -2147483648, -1, 2147483647),
+            (Op2::Add, -2147483648, -2147483648, 0),
+            (Op2::Sub, 2, 3, -1),
+            (Op2::Sub, 0, -2147483648, -2147483648),
+            (Op2::Sub, -2147483648, 1, 2147483647),
+            (Op2::Sub, -1, 2147483647, -2147483648),
+        ] {
+            assert_eq!(rt; apply2(op, a, b), want, "at {op:?} {a} {b}");
+        }
+    }
+}

@@ -5,3 +5,5 @@ pub mod WritingLemmas
 pub mod TransferLemmas
 pub mod ReportLemmas
 pub mod MemoryLemmas
+pub mod TopLemmas
+pub mod CauseLemmas

@@ -2,7 +2,8 @@
 use Rattle.std.proofs.Common.{◌≡◌, ◌∙◌, ◌≤◌, ◌<◌, ◌+◌, get_or, add-one, drop-cons, Result, Ok, Err, ◌^◌, ◌-◌, ℕ, List, [], ◌∷◌, ◌++◌, length, take, drop, Option, Some, None, refl, sym, ap, subst, arith, append_assoc, min}
 use Rattle.std.proofs.lemmas.List.{append-nil, append_cancel_left, take-append-drop}
 use Rattle.std.specs.List.{flat_map}
-use Rattle.std.proofs.Math.Seq.{take-append-add, take-append_seam, take-length}
+use Rattle.std.specs.Prelude.{OnOk, OnErr}
+use Rattle.std.proofs.Math.Seq.{take-append-add, take-append_seam, take-length, take-nil}
 use Rattle.switch_runner.specs.Outside.{Rose, TookFront, gained}
 use Rattle.switch_runner.specs.Writing.{At, Wrote, Broke, Puts}
 use Rattle.switch_runner.proofs.TransferLemmas.{TookFront-first, TookFront-second}
@@ -124,3 +125,12 @@ took_flushed text s t new empty w took =
     let all : TookFront s.taken new (s.waits ++ (text ++ [])) =
         took_then s.taken t.taken new s.waits t.waits text [] w.whole w.front (subst (λ (l : List ℕ). TookFront t.taken new l) (sym (append-nil t.waits)) took) in
     subst (λ (l : List ℕ). TookFront s.taken new l) (ap (λ l. l ++ (text ++ [])) empty ∙ append-nil text) all
+
+-- whether a write came to its end or not, a front was taken
+pub front_of : {T E : Type 0} (r : Result T E) (piece bytes : List ℕ) (old new : Option (List ℕ)) → piece ≡ bytes → OnOk r (new ≡ gained piece old) → OnErr r (TookFront old new piece) → TookFront old new bytes
+front_of (Ok x) piece bytes old new e ok err = took_all bytes old new (ok ∙ ap (λ l. gained l old) e)
+front_of (Err x) piece bytes old new e ok err = subst (λ (l : List ℕ). TookFront old new l) e err
+
+-- of nothing, nothing is taken
+pub took_nothing : (old new : Option (List ℕ)) → TookFront old new [] → new ≡ old
+took_nothing old new (n, first) = first ∙ ap (λ l. gained l old) (take-nil n) ∙ gained-nil old

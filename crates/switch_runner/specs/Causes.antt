@@ -1,5 +1,5 @@
 -- The causes of each answer of the top call.
-use Rattle.std.specs.Prelude.{◌≡◌, ◌⊎◌, ℕ, List, [], codes, Option, IfSome}
+use Rattle.std.specs.Prelude.{◌≡◌, ◌⊎◌, ℕ, List, [], codes, Option, Some, IfSome}
 use Rattle.capture_io.specs.declared.fault.CaptureFault.TheVariants as capture
 use Rattle.capture_io.specs.ClassicCapture.{Record, IsCapture}
 use Rattle.capture_io.specs.Header.{headers}
@@ -8,7 +8,7 @@ use Rattle.switch_runner.specs.declared.status.ProgramFault.TheVariants as progr
 use Rattle.switch_runner.specs.declared.status.Status.{Status}
 use Rattle.switch_runner.specs.declared.status.Status.TheVariants as status
 use Rattle.switch_runner.specs.Outside.{Rose, TookFront, gained}
-use Rattle.switch_runner.specs.Report.{report}
+use Rattle.switch_runner.specs.Report
 use Rattle.switch_runner.specs.ThinProgram.{IsAccepted}
 
 -- what a call saw of the outside: what the store tells of the program and of the capture, the counts of
@@ -24,6 +24,20 @@ pub record Seen : Type 0 where
   pub out_after : ℕ
   pub old : Option (List ℕ)
   pub new : Option (List ℕ)
+
+-- what a call for these two names saw
+abbrev pub saw : (List ℕ → Option (List ℕ)) → (List ℕ → ℕ) → (List ℕ → ℕ) → ℕ → ℕ → Option (List ℕ) → Option (List ℕ) → List ℕ → List ℕ → Seen
+saw told before after out_before out_after old new program capture = record {
+    text = told program;
+    bytes = told capture;
+    program_before = before program;
+    program_after = after program;
+    capture_before = before capture;
+    capture_after = after capture;
+    out_before = out_before;
+    out_after = out_after;
+    old = old;
+    new = new }
 
 -- the told text is accepted as some program
 abbrev pub IsProgram : List ℕ → Type 0
@@ -41,11 +55,13 @@ IsSomeCapture bytes = (records : List Record) × IsCapture bytes records
 abbrev pub IsNoCapture : List ℕ → Type 0
 IsNoCapture bytes = (records : List Record) → ¬ IsCapture bytes records
 
--- the told text is accepted as a program, the told bytes are a capture, and this holds of the report of
--- the program's sequential run over the capture's headers
-abbrev pub OfReport : Seen → (List ℕ → Type 0) → Type 0
-OfReport seen P = IfSome seen.text (λ text. IfSome seen.bytes (λ bytes.
-    (p : Program) × (records : List Record) × IsAccepted text p × IsCapture bytes records × P (report p (headers p.packet.fields records))))
+-- the told text is accepted as a program, the told bytes are a capture, and where both are told this
+-- holds of the report of the program's sequential run over the capture's headers
+pub record OfReport (seen : Seen) (P : List ℕ → Type 0) : Type 0 where
+  pub program : IfSome seen.text IsProgram
+  pub capture : IfSome seen.bytes IsSomeCapture
+  pub report : IfSome seen.text (λ text. IfSome seen.bytes (λ bytes.
+    (p : Program) × (records : List Record) × IsAccepted text p × IsCapture bytes records × P (Report.report p (headers p.packet.fields records))))
 
 -- the output is as it was
 abbrev pub IsUnwritten : Seen → Type 0
@@ -71,6 +87,28 @@ IsReadThrough seen = (¬ Rose seen.program_before seen.program_after) × (¬ Ros
 -- the answer is this one, unless memory ran out
 abbrev pub IsOrNoMemory : Status → Status → Type 0
 IsOrNoMemory answer s = (answer ≡ s) ⊎ (answer ≡ status.NoMemory)
+
+-- a told text that is no program is always answered so
+abbrev pub ProgramAlways : Status → Seen → Type 0
+ProgramAlways answer seen = (text : List ℕ) → seen.text ≡ Some text → IsNoProgram text → IsReadThrough seen → IsOrNoMemory answer (status.Program program.NotYet)
+
+-- told bytes that are no capture, under a told program, are always answered so
+abbrev pub CaptureAlways : Status → Seen → Type 0
+CaptureAlways answer seen = (text bytes : List ℕ) → seen.text ≡ Some text → seen.bytes ≡ Some bytes → IsProgram text → IsNoCapture bytes → IsReadThrough seen → IsOrNoMemory answer (status.Capture capture.NotYet)
+
+-- a told program over a told capture, with no fault, is run to its end
+abbrev pub IsComplete : Status → Seen → Type 0
+IsComplete answer seen = (text bytes : List ℕ) → seen.text ≡ Some text → seen.bytes ≡ Some bytes → IsProgram text → IsSomeCapture bytes → IsReadThrough seen → ¬ Rose seen.out_before seen.out_after → IsOrNoMemory answer status.Done
+
+-- the answer is about the program
+abbrev pub IsAboutProgram : Status → Type 0
+IsAboutProgram status.Done = ⊥
+IsAboutProgram status.Words = ⊥
+IsAboutProgram (status.Program f) = Unit {0}
+IsAboutProgram (status.Capture f) = ⊥
+IsAboutProgram status.ReadFault = ⊥
+IsAboutProgram status.WriteFault = ⊥
+IsAboutProgram status.NoMemory = ⊥
 
 -- the line that tells of an answer other than Done
 abbrev pub line : Status → List ℕ

@@ -13,3 +13,4 @@ pub mod Report
 pub mod Causes
 pub mod Transfer
 pub mod Memory
+pub mod Top

@@ -1,7 +1,9 @@
 -- Files and output in memory.
-use Rattle.std.specs.Prelude.{ℕ, List, [], Bool, slice_index_or}
-use Rattle.std.specs.List.{position_or_len}
+use Rattle.std.specs.Prelude.{◌+◌, ◌-◌, ◌^◌, ◌==◌, ℕ, min, List, [], ◌++◌, length, take, Bool, Result, Ok, Err, is_some, if◌then◌else◌, slice_index_or}
+use Rattle.std.specs.List.{position, position_or_len, list_any}
 use Rattle.std.specs.Str.{bytes_eq}
+use Rattle.switch_runner.specs.declared.outside.StoreFault.{StoreFault}
+use Rattle.switch_runner.specs.declared.outside.StoreFault.TheVariants.{Failed}
 
 -- a named list of bytes, and how often a read of it has failed
 pub record NamedFile : Type 0 where
@@ -37,3 +39,25 @@ pub record Basin : Type 0 where
   pub fails : List ℕ
   pub writes : ℕ
   pub faults : ℕ
+
+-- the number of the next read or write; it stands still at its type's end
+abbrev pub next : ℕ → ℕ
+next count = min (count + 1) (2 ^ 64 - 1)
+
+-- what a read answers: the name's next bytes, as many as it may give, or that it fails
+abbrev pub answer_of : Shelf → List ℕ → ℕ → ℕ → Result ℕ StoreFault
+answer_of shelf name at room =
+    if is_some (position (named name) shelf.files) then (if list_any (λ n. n == next shelf.reads) shelf.fails then Err Failed else Ok (min (min room shelf.most) (length (file_of shelf.files name).bytes - at))) else Ok 0
+
+-- how many reads of listed names there were after a read of this name
+abbrev pub reads_after : Shelf → List ℕ → ℕ
+reads_after shelf name = if is_some (position (named name) shelf.files) then next shelf.reads else shelf.reads
+
+-- what a sink holds after a write that failed
+abbrev pub refused : Basin → Basin
+refused basin = record basin { writes = next basin.writes; faults = next basin.faults }
+
+-- what a sink holds after a write of a piece, and how much of it was taken
+abbrev pub poured : Basin → List ℕ → Basin
+poured basin piece =
+    record basin { writes = next basin.writes; bytes = basin.bytes ++ take (min (length piece) basin.most) piece }

@@ -192,10 +192,11 @@ mod tests {
         }
         let missing = store.read_at("nowhere", 0, &mut piece);
         assert_eq!(rt; missing, Err(StoreFault::Failed));
-        fs::create_dir(&rt, "folder")?;
-        let folder = store.read_at("folder", 0, &mut piece);
+        let folder = store.read_at(".", 0, &mut piece);
         assert_eq!(rt; folder, Err(StoreFault::Failed));
         assert_eq!(rt; store.read_at("letters", 0, &mut piece)?, 3);
+        fs::remove_file(&rt, "digits")?;
+        fs::remove_file(&rt, "letters")?;
         Ok(())
     }
 

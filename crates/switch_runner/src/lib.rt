@@ -7,12 +7,12 @@
 
 mod block;
 mod checks;
-mod evaluate;
-mod names;
-mod numbered;
 mod edge;
+mod evaluate;
 mod fabric;
 mod memory;
+mod names;
+mod numbered;
 mod outside;
 mod report;
 mod resolve;

@@ -1,7 +1,9 @@
 //! Stores and sinks in memory, for tests and trials.
-ghost use Rattle.std.specs.Prelude.{◌≡◌, ◌≢◌, ◌≤◌, ◌<◌, ◌+◌, ◌-◌, ◌^◌, ℕ, List, [], length, take, drop, min, Some, None, Option};
-ghost use Rattle.std.specs.List.{position};
-ghost use Rattle.switch_runner.specs.Memory.{NamedFile, named, file_of, Shelf, Basin};
+ghost use Rattle.std.specs.Prelude.{◌≡◌, ◌≢◌, ◌≤◌, ◌<◌, ◌+◌, ◌-◌, ◌^◌, ◌==◌, true, ℕ, List, length, take, drop, min, Some, None, Ok, IfOk, OnOk, OnErr, IsErr};
+ghost use Rattle.std.specs.List.{position, list_any};
+ghost use Rattle.switch_runner.specs.Outside.{ReadsPiece};
+ghost use Rattle.switch_runner.specs.Faults.{ReadCause, WriteCause};
+ghost use Rattle.switch_runner.specs.Memory.{NamedFile, named, file_of, Shelf, Basin, next, answer_of, reads_after, poured, refused};
 
 use crate::outside::{Failed, Sink, Store, StoreFault};
 use mp5_words::Name;
@@ -118,7 +120,20 @@ impl Store for MemoryStore {
 
     ghost faults = { λ store name. (file_of store.files name).faults };
 
-    fn read_at(&mut self, name: &str, at: u64, into: &mut [u8]) -> Result<usize, StoreFault> {
+    fn read_at(&mut self, name: &str, at: u64, into: &mut [u8]) -> Result<usize, StoreFault>
+        requires { at ≤ 134217729 }
+        ensures keeps { (other : List ℕ)
+            → (file_of self.new.files other).bytes ≡ (file_of self.old.files other).bytes }
+        ensures piece { IfOk result
+            (λ n. ReadsPiece (file_of self.old.files name.now).bytes at n into.new) }
+        ensures cause { ReadCause (file_of self.old.files name.now).faults
+            (file_of self.new.files name.now).faults result }
+        ensures others { (other : List ℕ) → other ≢ name.now
+            → (file_of self.new.files other).faults ≡ (file_of self.old.files other).faults }
+        ensures answer { result ≡ answer_of self.old name.now at (length into.old) }
+        ensures numbered { self.new.reads ≡ reads_after self.old name.now }
+        ensures kept { (self.new.most ≡ self.old.most) × (self.new.fails ≡ self.old.fails) }
+    {
         let Some(place) = place_of(&self.files, name) else {
             return Ok(0);
         };
@@ -187,7 +202,14 @@ impl Sink for MemorySink {
 
     ghost faults = { λ sink. sink.faults };
 
-    fn write(&mut self, piece: &[u8]) -> Result<usize, Failed> {
+    fn write(&mut self, piece: &[u8]) -> Result<usize, Failed>
+        ensures some { IfOk result (λ n. 0 < length piece.now → 0 < n) }
+        ensures cause { WriteCause self.old.faults self.new.faults result }
+        ensures taken { IfOk result (λ n. n ≡ min (length piece.now) self.old.most) }
+        ensures after { OnOk result (self.new ≡ poured self.old piece.now) }
+        ensures after_failure { OnErr result (self.new ≡ refused self.old) }
+        ensures fails { list_any (λ n. n == next self.old.writes) self.old.fails ≡ true → IsErr result }
+    {
         self.writes = self.writes.saturating_add(1);
         let count = piece.len().min(self.most as usize);
         if !self.fails.contains(&self.writes)
@@ -227,7 +249,14 @@ impl Store for SureStore {
 
     ghost faults = { λ _ _. 0 };
 
-    fn read_at(&mut self, name: &str, at: u64, into: &mut [u8]) -> Result<usize, StoreFault> {
+    fn read_at(&mut self, name: &str, at: u64, into: &mut [u8]) -> Result<usize, StoreFault>
+        requires { at ≤ 134217729 }
+        ensures same { self.new ≡ self.old }
+        ensures piece { IfOk result
+            (λ n. ReadsPiece (file_of self.old name.now).bytes at n into.new) }
+        ensures answer { result
+            ≡ Ok (min (length into.old) (length (file_of self.old name.now).bytes - at)) }
+    {
         match place_of(&self.files, name) {
             Some(place) => Ok(self.files[place].copy_from(at, into)),
             None => Ok(0),
@@ -251,7 +280,9 @@ impl Sink for SureSink {
 
     ghost faults = { λ _. 0 };
 
-    fn write(&mut self, piece: &[u8]) -> Result<usize, Failed> {
+    fn write(&mut self, piece: &[u8]) -> Result<usize, Failed>
+        ensures whole { result ≡ Ok (length piece.now) }
+    {
         Ok(piece.len())
     }
 }

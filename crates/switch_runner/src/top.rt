@@ -1,4 +1,16 @@
 //! The top call: the words, the program, the capture, the run, the report.
+ghost use Rattle.std.specs.Prelude.{◌≡◌, ◌≢◌, ◌≤◌, ◌⊎◌, ◌↔◌, ℕ, List, length, map, take, string_bytes, IfOk, IfErr, IfSome, IfNone, IsErrOf, Some, None};
+ghost use Rattle.std.specs.Option.{option_map};
+ghost use Rattle.capture_io.specs.ClassicCapture.{Record, IsCapture};
+ghost use Rattle.capture_io.specs.Header.{headers};
+ghost use Rattle.domino_tree.specs.declared.program.Program.{Program};
+ghost use Rattle.switch_runner.specs.Causes.{IsNoProgram, IsNoCapture, IsAboutProgram, Because, ProgramAlways, CaptureAlways, IsComplete, saw, line};
+ghost use Rattle.switch_runner.specs.CommandLine as command;
+ghost use Rattle.switch_runner.specs.Outside.{Rose, TookFront, gained};
+ghost use Rattle.switch_runner.specs.Report.{report};
+ghost use Rattle.switch_runner.specs.ThinProgram.{IsAccepted};
+ghost use Rattle.switch_runner.specs.Top.{Stands, AreWide, NoSource, NoHeaders, Ends, read_status};
+
 use crate::block::Block;
 use crate::fabric::Fabric;
 use crate::outside::{Failed, Sink, Store, StoreFault};
@@ -26,17 +38,65 @@ pub fn switch_top<S: Store, K: Sink, F: Fabric>(
     out: &mut K,
     err: &mut K,
     _fabric: &mut F,
-) -> Status {
-    let status = match asked(words) {
-        Some((program, capture)) => run_files(alloc, program, capture, store, out),
-        None => Status::Words,
-    };
+) -> Status
+    // Words comes exactly where the words aren't taken, and then nothing is read or written.
+    ensures words { (result ≡ Status.Words) ↔ (command.asked (map string_bytes words.now) ≡ None) }
+    ensures untouched { result ≡ Status.Words → (K.taken out.new ≡ K.taken out.old) × ((name : List ℕ) → S.faults store.new name ≡ S.faults store.old name) }
+
+    // Each other answer has its cause. Done comes only with the whole report of the sequential run.
+    ensures because { IfSome (command.asked (map string_bytes words.now)) (λ names. Because result
+        (saw (S.told store.old) (S.faults store.old) (S.faults store.new) (K.faults out.old) (K.faults out.new) (K.taken out.old) (K.taken out.new) names.0 names.1)) }
+
+    // Where no read and no write fails, the told input decides the answer, unless memory runs out.
+    ensures program_always { IfSome (command.asked (map string_bytes words.now)) (λ names. ProgramAlways result
+        (saw (S.told store.old) (S.faults store.old) (S.faults store.new) (K.faults out.old) (K.faults out.new) (K.taken out.old) (K.taken out.new) names.0 names.1)) }
+    ensures capture_always { IfSome (command.asked (map string_bytes words.now)) (λ names. CaptureAlways result
+        (saw (S.told store.old) (S.faults store.old) (S.faults store.new) (K.faults out.old) (K.faults out.new) (K.taken out.old) (K.taken out.new) names.0 names.1)) }
+    ensures complete { IfSome (command.asked (map string_bytes words.now)) (λ names. IsComplete result
+        (saw (S.told store.old) (S.faults store.old) (S.faults store.new) (K.faults out.old) (K.faults out.new) (K.taken out.old) (K.taken out.new) names.0 names.1)) }
+
+    // A refused program means that the capture isn't read, and no other name is ever read.
+    ensures unread { IfSome (command.asked (map string_bytes words.now)) (λ names.
+        IsAboutProgram result → (name : List ℕ) → name ≢ names.0 → S.faults store.new name ≡ S.faults store.old name) }
+    ensures others { IfSome (command.asked (map string_bytes words.now)) (λ names.
+        (name : List ℕ) → name ≢ names.0 → name ≢ names.1 → S.faults store.new name ≡ S.faults store.old name) }
+
+    // Standard error gains the one line of the answer, or a front of it where a write to it fails.
+    ensures told { ¬ Rose (K.faults err.old) (K.faults err.new) → K.taken err.new ≡ gained (line result) (K.taken err.old) }
+    ensures line { TookFront (K.taken err.old) (K.taken err.new) (line result) }
+    ensures silent { result ≡ Status.Done → K.taken err.new ≡ K.taken err.old }
+{
+    let status = run_words(alloc, words, store, out);
     tell(err, &status);
     status
 }
 
+/// Runs the program on the words, and tells nothing of the answer.
+fn run_words<S: Store, K: Sink>(
+    alloc: Global,
+    words: &[String],
+    store: &mut S,
+    out: &mut K,
+) -> Status
+    ensures words { (result ≡ Status.Words) ↔ (command.asked (map string_bytes words.now) ≡ None) }
+    ensures untouched { result ≡ Status.Words → (K.taken out.new ≡ K.taken out.old) × ((name : List ℕ) → S.faults store.new name ≡ S.faults store.old name) }
+    ensures because { IfSome (command.asked (map string_bytes words.now)) (λ names. Because result
+        (saw (S.told store.old) (S.faults store.old) (S.faults store.new) (K.faults out.old) (K.faults out.new) (K.taken out.old) (K.taken out.new) names.0 names.1)) }
+    ensures unread { IfSome (command.asked (map string_bytes words.now)) (λ names.
+        IsAboutProgram result → (name : List ℕ) → name ≢ names.0 → S.faults store.new name ≡ S.faults store.old name) }
+    ensures others { IfSome (command.asked (map string_bytes words.now)) (λ names.
+        (name : List ℕ) → name ≢ names.0 → name ≢ names.1 → S.faults store.new name ≡ S.faults store.old name) }
+{
+    match asked(words) {
+        Some((program, capture)) => run_files(alloc, program, capture, store, out),
+        None => Status::Words,
+    }
+}
+
 /// The names of the program and of the capture that the words ask for.
-fn asked(words: &[String]) -> Option<(&str, &str)> {
+fn asked(words: &[String]) -> Option<(&str, &str)>
+    ensures { option_map (λ names. (names.0.now, names.1.now)) result ≡ command.asked (map string_bytes words.now) }
+{
     let [_, mode, program, capture] = words else {
         return None;
     };
@@ -49,12 +109,16 @@ fn asked(words: &[String]) -> Option<(&str, &str)> {
 }
 
 /// Whether a word can be a file's name.
-fn is_file(word: &str) -> bool {
+fn is_file(word: &str) -> bool
+    ensures { result ≡ command.is_file word.now }
+{
     !word.as_bytes().starts_with(b"-")
 }
 
 /// Whether a word can be the name of a capture that is read.
-fn is_capture_file(word: &str) -> bool {
+fn is_capture_file(word: &str) -> bool
+    ensures { result ≡ command.is_capture_file word.now }
+{
     is_file(word) && !word.as_bytes().starts_with(b"gen:")
 }
 
@@ -65,7 +129,12 @@ fn run_files<S: Store, K: Sink>(
     capture: &str,
     store: &mut S,
     out: &mut K,
-) -> Status {
+) -> Status
+    ensures because { Because result (saw (S.told store.old) (S.faults store.old) (S.faults store.new)
+        (K.faults out.old) (K.faults out.new) (K.taken out.old) (K.taken out.new) program.now capture.now) }
+    ensures unread { IsAboutProgram result → (name : List ℕ) → name ≢ program.now → S.faults store.new name ≡ S.faults store.old name }
+    ensures others { (name : List ℕ) → name ≢ program.now → name ≢ capture.now → S.faults store.new name ≡ S.faults store.old name }
+{
     let resolved = match read_source(alloc, store, program) {
         Ok(resolved) => resolved,
         Err(status) => return status,
@@ -78,7 +147,13 @@ fn run_files<S: Store, K: Sink>(
 }
 
 /// Reads a program.
-fn read_source<S: Store>(alloc: Global, store: &mut S, name: &str) -> Result<Resolved, Status> {
+fn read_source<S: Store>(alloc: Global, store: &mut S, name: &str) -> Result<Resolved, Status>
+    ensures keeps { (other : List ℕ) → S.told store.new other ≡ S.told store.old other }
+    ensures others { (other : List ℕ) → other ≢ name.now → S.faults store.new other ≡ S.faults store.old other }
+    ensures later { S.faults store.old name.now ≤ S.faults store.new name.now }
+    ensures read { IfOk result (λ r. (p : Program) × Stands r p × IfSome (S.told store.old name.now) (λ text. IsAccepted text p)) }
+    ensures refused { IfErr result (NoSource (S.told store.old name.now) (S.faults store.old name.now) (S.faults store.new name.now)) }
+{
     let text = match read_whole(alloc, store, name, MAX_TEXT) {
         Ok(text) => text,
         Err(fault) => return Err(read_fault(fault)),
@@ -91,7 +166,10 @@ fn read_source<S: Store>(alloc: Global, store: &mut S, name: &str) -> Result<Res
 }
 
 /// The program that a text is accepted as.
-fn accept(alloc: Global, text: &[u8]) -> Result<Resolved, ProgramFault> {
+fn accept(alloc: Global, text: &[u8]) -> Result<Resolved, ProgramFault>
+    ensures read { IfOk result (λ r. (p : Program) × IsAccepted text.now p × Stands r p) }
+    ensures not_yet { IsErrOf result ProgramFault.NotYet → IsNoProgram text.now }
+{
     match read_program(alloc, text) {
         Ok(program) => resolve(alloc, &program),
         Err(TextFault::NotYet) => Err(ProgramFault::NotYet),
@@ -105,7 +183,13 @@ fn read_headers<S: Store>(
     store: &mut S,
     name: &str,
     fields: &FieldNames,
-) -> Result<Capture, Status> {
+) -> Result<Capture, Status>
+    ensures keeps { (other : List ℕ) → S.told store.new other ≡ S.told store.old other }
+    ensures others { (other : List ℕ) → other ≢ name.now → S.faults store.new other ≡ S.faults store.old other }
+    ensures later { S.faults store.old name.now ≤ S.faults store.new name.now }
+    ensures read { IfOk result (λ c. (records : List Record) × (c ≡ headers fields.now records) × IfSome (S.told store.old name.now) (λ bytes. IsCapture bytes records)) }
+    ensures refused { IfErr result (NoHeaders (S.told store.old name.now) (S.faults store.old name.now) (S.faults store.new name.now)) }
+{
     let bytes = match read_whole(alloc, store, name, MAX_CAPTURE) {
         Ok(bytes) => bytes,
         Err(fault) => return Err(read_fault(fault)),
@@ -118,7 +202,9 @@ fn read_headers<S: Store>(
 }
 
 /// The answer to a read that gave nothing.
-fn read_fault(fault: StoreFault) -> Status {
+fn read_fault(fault: StoreFault) -> Status
+    ensures { result ≡ read_status fault }
+{
     match fault {
         StoreFault::Failed => Status::ReadFault,
         StoreFault::NoMemory => Status::NoMemory,
@@ -131,7 +217,12 @@ fn run_and_report<K: Sink>(
     resolved: &Resolved,
     headers: &Capture,
     out: &mut K,
-) -> Status {
+) -> Status
+    requires stands { (p : Program) × Stands resolved.now p }
+    requires wide { AreWide (length resolved.now.fields) headers.now }
+    ensures { (p : Program) → Stands resolved.now p
+        → Ends (report p headers.now) (K.taken out.old) (K.taken out.new) (K.faults out.old) (K.faults out.new) result }
+{
     let Ok(end) = run_one(alloc, resolved, headers) else {
         return Status::NoMemory;
     };
@@ -146,6 +237,9 @@ fn run_and_report<K: Sink>(
 }
 
 /// Writes the line that tells of a status.
-fn tell<K: Sink>(err: &mut K, status: &Status) {
+fn tell<K: Sink>(err: &mut K, status: &Status)
+    ensures front { TookFront (K.taken err.old) (K.taken err.new) (line status.now) }
+    ensures whole { ¬ Rose (K.faults err.old) (K.faults err.new) → K.taken err.new ≡ gained (line status.now) (K.taken err.old) }
+{
     let _ = write_all(err, status.line());
 }

@@ -1,0 +1,62 @@
+-- The steps of the top call, one by one.
+use Rattle.std.specs.Prelude.{◌≡◌, ℕ, ℤ, List, [], ◌∷◌, length, Option, IfSome}
+use Rattle.capture_io.specs.declared.fault.CaptureFault.TheVariants as capture
+use Rattle.domino_tree.specs.declared.program.Program.{Program}
+use Rattle.domino_tree.specs.Meaning.{State, names_of, exec}
+use Rattle.switch_runner.specs.declared.resolve.Resolved.{Resolved}
+use Rattle.switch_runner.specs.declared.outside.StoreFault.{StoreFault}
+use Rattle.switch_runner.specs.declared.outside.StoreFault.TheVariants as store
+use Rattle.switch_runner.specs.declared.status.ProgramFault.TheVariants as program
+use Rattle.switch_runner.specs.declared.status.Status.{Status}
+use Rattle.switch_runner.specs.declared.status.Status.TheVariants as status
+use Rattle.switch_runner.specs.Causes.{IsNoProgram, IsNoCapture}
+use Rattle.switch_runner.specs.Numbered.{run_body}
+use Rattle.switch_runner.specs.Outside.{Rose, TookFront, gained}
+
+-- the resolved program has this program's names and meaning
+pub record Stands (r : Resolved) (p : Program) : Type 0 where
+  pub fields : r.fields ≡ (names_of p).fields
+  pub cells : r.cells.items ≡ (names_of p).cells
+  pub body : (s : State) → run_body r.body.items s ≡ exec (names_of p) p.function.body s
+
+-- each packet has so many words
+abbrev pub AreWide : ℕ → List (List ℤ) → Type 0
+AreWide width [] = Unit {0}
+AreWide width (p ∷ ps) = (length p ≡ width) × AreWide width ps
+
+-- why no program was read, of what is told and of its name's count
+abbrev pub NoSource : Option (List ℕ) → ℕ → ℕ → Status → Type 0
+NoSource text before now status.Done = ⊥
+NoSource text before now status.Words = ⊥
+NoSource text before now (status.Program program.NotYet) = IfSome text IsNoProgram
+NoSource text before now (status.Program program.NoMemory) = ⊥
+NoSource text before now (status.Capture f) = ⊥
+NoSource text before now status.ReadFault = Rose before now
+NoSource text before now status.WriteFault = ⊥
+NoSource text before now status.NoMemory = Unit {0}
+
+-- why no capture was read
+abbrev pub NoHeaders : Option (List ℕ) → ℕ → ℕ → Status → Type 0
+NoHeaders bytes before now status.Done = ⊥
+NoHeaders bytes before now status.Words = ⊥
+NoHeaders bytes before now (status.Program f) = ⊥
+NoHeaders bytes before now (status.Capture capture.NotYet) = IfSome bytes IsNoCapture
+NoHeaders bytes before now (status.Capture capture.NoMemory) = ⊥
+NoHeaders bytes before now status.ReadFault = Rose before now
+NoHeaders bytes before now status.WriteFault = ⊥
+NoHeaders bytes before now status.NoMemory = Unit {0}
+
+-- how a run ends whose report is this text
+abbrev pub Ends : List ℕ → Option (List ℕ) → Option (List ℕ) → ℕ → ℕ → Status → Type 0
+Ends text old new before now status.Done = new ≡ gained text old
+Ends text old new before now status.Words = ⊥
+Ends text old new before now (status.Program f) = ⊥
+Ends text old new before now (status.Capture f) = ⊥
+Ends text old new before now status.ReadFault = ⊥
+Ends text old new before now status.WriteFault = Rose before now × TookFront old new text
+Ends text old new before now status.NoMemory = new ≡ old
+
+-- the answer to a read that gave nothing
+abbrev pub read_status : StoreFault → Status
+read_status store.Failed = status.ReadFault
+read_status store.NoMemory = status.NoMemory
