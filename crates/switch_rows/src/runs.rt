@@ -66,7 +66,7 @@ fn runs(rt: HostRuntime) -> Result<(), Fail> {
             &[3, 3],
             "pkt 0 n=0\npkt 1 n=5\nreg len=5\ndone 2\n",
         ),
-        // c is -1 - 0 - (-2147483648), and then -1 - 2147483647 - (-2147483648); the sum before wraps.
+        // c is -1 - 0 + 2147483648, and n one more, which wraps. Then c is -1 - 2147483647 + 2147483648.
         (
             "struct P { int n; }; int c; void f(struct P p) { c = 4294967295 - c - 2147483648 + p.n; p.n = c + 1; }",
             &[0, 0],
