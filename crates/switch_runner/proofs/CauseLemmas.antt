@@ -42,21 +42,22 @@ because_headers status.NoMemory seen p h e = e
 
 -- the report of what was read
 of_report : (seen : Seen) (p : Program) (records : List Record) (P : List ℕ → Type 0) → IfSome seen.text (λ text. IsAccepted text p) → IfSome seen.bytes (λ bytes. IsCapture bytes records)
-  → P (report p (headers p.packet.fields records)) → OfReport seen P
+    → P (report p (headers p.packet.fields records)) → OfReport seen P
 of_report seen p records P accepted captured h = record {
-    program = if_told seen.text (λ text. IsAccepted text p) IsProgram (λ text a. (p, a)) accepted;
-    capture = if_told seen.bytes (λ bytes. IsCapture bytes records) IsSomeCapture (λ bytes c. (records, c)) captured;
-    report =
-        if_told seen.text (λ text. IsAccepted text p)
-            (λ text. IfSome seen.bytes (λ bytes. (q : Program) × (rs : List Record) × IsAccepted text q × IsCapture bytes rs × P (report q (headers q.packet.fields rs))))
-            (λ text a. if_told seen.bytes (λ bytes. IsCapture bytes records)
-                (λ bytes. (q : Program) × (rs : List Record) × IsAccepted text q × IsCapture bytes rs × P (report q (headers q.packet.fields rs)))
-                (λ bytes c. (p, records, a, c, h)) captured)
-            accepted }
+  program = if_told seen.text (λ text. IsAccepted text p) IsProgram (λ text a. (p, a)) accepted;
+  capture = if_told seen.bytes (λ bytes. IsCapture bytes records) IsSomeCapture (λ bytes c. (records, c)) captured;
+  report =
+      if_told seen.text (λ text. IsAccepted text p)
+      (λ text. IfSome seen.bytes (λ bytes. (q : Program) × (rs : List Record) × IsAccepted text q × IsCapture bytes rs × P (report q (headers q.packet.fields rs))))
+      (λ text a. if_told seen.bytes (λ bytes. IsCapture bytes records)
+      (λ bytes. (q : Program) × (rs : List Record) × IsAccepted text q × IsCapture bytes rs × P (report q (headers q.packet.fields rs)))
+      (λ bytes c. (p, records, a, c, h)) captured)
+      accepted;
+}
 
 -- both were read, and the transaction was run
 pub because_ran : (s : Status) (seen : Seen) (p : Program) (records : List Record) → IfSome seen.text (λ text. IsAccepted text p) → IfSome seen.bytes (λ bytes. IsCapture bytes records)
-  → Ends (report p (headers p.packet.fields records)) seen.old seen.new seen.out_before seen.out_after s → Because s seen
+    → Ends (report p (headers p.packet.fields records)) seen.old seen.new seen.out_before seen.out_after s → Because s seen
 because_ran status.Done seen p records a c h = of_report seen p records (λ text. seen.new ≡ gained text seen.old) a c h
 because_ran status.Words seen p records a c h = absurd h
 because_ran (status.Program f) seen p records a c h = absurd h
@@ -98,15 +99,16 @@ headers_earlier status.NoMemory bytes first before now e h = h
 same_or_not : (xs ys : List ℕ) → (xs ≡ ys) ⊎ (xs ≢ ys)
 same_or_not xs ys = either (bytes_eq xs ys) (xs ≡ ys) (bytes_eq-Decides xs ys)
   where
-  either : (b : Bool) (P : Type 0) → Decides b P → P ⊎ (¬ P)
-  either true P d = inl (d.0 refl)
-  either false P d = inr (λ p. let e : ◌≡◌ {A = Bool} false true = d.1 p in cc)
+    either : (b : Bool) (P : Type 0) → Decides b P → P ⊎ (¬ P)
+    either true P d = inl (d.0 refl)
+    either false P d = inr (λ p. let e : ◌≡◌ {A = Bool} false true = d.1 p in cc)
 
 -- a call that moves the count of one name only up, and leaves those of the others, lowers none
 pub none_falls : (before after : List ℕ → ℕ) (name other : List ℕ) → ((n : List ℕ) → n ≢ name → after n ≡ before n) → before name ≤ after name → before other ≤ after other
 none_falls before after name other stay later = elim (same_or_not other name) [
-    inl e ↦ subst (λ (n : List ℕ). before n ≤ after n) (sym e) later
-  | inr d ↦ (let s : after other ≡ before other = stay other d in omega arith) ]
+  | inl e ↦ subst (λ (n : List ℕ). before n ≤ after n) (sym e) later
+  | inr d ↦ (let s : after other ≡ before other = stay other d in omega arith)
+]
 
 -- what is told of a name decides the answer, where no read and no write failed
 told_as : (told : Option (List ℕ)) (bytes : List ℕ) (P : List ℕ → Type 0) → told ≡ Some bytes → IfSome told P → P bytes

@@ -69,7 +69,7 @@ packet_count p hs = sym (length-map (one p hs).packets length) ∙ ap length (on
 
 -- the words at the end of a run are the report's packets and registers
 pub words_length : (r : Resolved) (p : Program) (hs : List (List ℤ)) (count : ℕ) (words cells : List ℤ) → Stands r p → AreWide (length r.fields) hs → count ≡ length hs
-  → IsEnd (one p hs) words cells → length words ≡ count * length r.fields
+    → IsEnd (one p hs) words cells → length words ≡ count * length r.fields
 words_length r p hs count words cells s w e end =
     let n : length (one p hs).packets ≡ count = packet_count p hs ∙ sym e in
     ap length end.packets ∙ flat_length (length r.fields) (one p hs).packets (wide_same (length r.fields) (one p hs).packets hs (one-lengths p hs) w) ∙ ap (λ k. k * length r.fields) n
@@ -78,14 +78,14 @@ pub cells_length : (r : Resolved) (p : Program) (hs : List (List ℤ)) (names : 
 cells_length r p hs names words cells s same end = ap length end.registers ∙ one_cells p hs ∙ sym (ap length same ∙ ap length s.cells)
 
 pub text_is : (r : Resolved) (p : Program) (hs : List (List ℤ)) (count : ℕ) (names : List (List ℕ)) (words cells : List ℤ) → Stands r p → AreWide (length r.fields) hs → count ≡ length hs
-  → names ≡ r.cells.items → IsEnd (one p hs) words cells → words_text r.fields names (rows count (length r.fields) words) cells count ≡ report p hs
+    → names ≡ r.cells.items → IsEnd (one p hs) words cells → words_text r.fields names (rows count (length r.fields) words) cells count ≡ report p hs
 text_is r p hs count names words cells s w e same end =
     let ps : List (List ℤ) = (one p hs).packets in
     let n : length ps ≡ count = packet_count p hs ∙ sym e in
     let back : rows count (length r.fields) words ≡ ps =
-        ap (rows count (length r.fields)) end.packets
-        ∙ ap (λ k. rows k (length r.fields) (flat_map (λ p. p) ps)) (sym n)
-        ∙ rows_back (length r.fields) ps (wide_same (length r.fields) ps hs (one-lengths p hs) w) in
+    ap (rows count (length r.fields)) end.packets
+    ∙ ap (λ k. rows k (length r.fields) (flat_map (λ p. p) ps)) (sym n)
+    ∙ rows_back (length r.fields) ps (wide_same (length r.fields) ps hs (one-lengths p hs) w) in
     ap (λ l. words_text r.fields names l cells count) back
     ∙ ap (λ l. words_text l names ps cells count) s.fields
     ∙ ap (λ l. words_text (names_of p).fields l ps cells count) (same ∙ s.cells)
@@ -114,9 +114,9 @@ capture_read read told records e a = subst (λ (l : List ℕ). IsCapture l recor
 
 -- a text that is read, and whose names pass, is accepted
 pub accepted_as : (result : Result Resolved ProgramFault) (text : List ℕ) (p : Program) → IsThinText text p
-  → IfOk result (λ r. r.fields ≡ (names_of p).fields) → IfOk result (λ r. r.cells.items ≡ (names_of p).cells)
-  → IfOk result (λ r. (s : State) → run_body r.body.items s ≡ exec (names_of p) p.function.body s) → OnOk result (passes_checks p ≡ true)
-  → IfOk result (λ r. (p : Program) × IsAccepted text p × Stands r p)
+    → IfOk result (λ r. r.fields ≡ (names_of p).fields) → IfOk result (λ r. r.cells.items ≡ (names_of p).cells)
+    → IfOk result (λ r. (s : State) → run_body r.body.items s ≡ exec (names_of p) p.function.body s) → OnOk result (passes_checks p ≡ true)
+    → IfOk result (λ r. (p : Program) × IsAccepted text p × Stands r p)
 accepted_as (Ok r) text p t fields cells body checked = (p, record { read = t; checked = checked }, record { fields = fields; cells = cells; body = body })
 accepted_as (Err f) text p t fields cells body checked = tt
 

@@ -59,9 +59,10 @@ wrote_then a b s t u p q = record {
 
 pub broke_then : (a b : List ℕ) (s t u : At) → Wrote a s t → Broke b t u → Broke (a ++ b) s u
 broke_then a b s t u p q = record {
-    front = took_then s.taken t.taken u.taken s.waits t.waits a b p.whole p.front q.front;
-    later = omega (arith, p.later, q.later);
-    rose = let h : s.faults ≤ t.faults = p.later in let k : min (t.faults + 1) (2 ^ 64 - 1) ≤ u.faults = q.rose in omega arith }
+  front = took_then s.taken t.taken u.taken s.waits t.waits a b p.whole p.front q.front;
+  later = omega (arith, p.later, q.later);
+  rose = let h : s.faults ≤ t.faults = p.later in let k : min (t.faults + 1) (2 ^ 64 - 1) ≤ u.faults = q.rose in omega arith;
+}
 
 pub broke_more : (a b : List ℕ) (s u : At) → Broke a s u → Broke (a ++ b) s u
 broke_more a b s u p = record { front = took_more s.taken u.taken s.waits a b p.front; later = p.later; rose = p.rose }
@@ -123,7 +124,7 @@ puts_last whole piece s t u (Err e) g b = goes_broken whole piece piece [] s t u
 pub took_flushed : (text : List ℕ) (s t : At) (new : Option (List ℕ)) → s.waits ≡ [] → Wrote text s t → TookFront t.taken new t.waits → TookFront s.taken new text
 took_flushed text s t new empty w took =
     let all : TookFront s.taken new (s.waits ++ (text ++ [])) =
-        took_then s.taken t.taken new s.waits t.waits text [] w.whole w.front (subst (λ (l : List ℕ). TookFront t.taken new l) (sym (append-nil t.waits)) took) in
+    took_then s.taken t.taken new s.waits t.waits text [] w.whole w.front (subst (λ (l : List ℕ). TookFront t.taken new l) (sym (append-nil t.waits)) took) in
     subst (λ (l : List ℕ). TookFront s.taken new l) (ap (λ l. l ++ (text ++ [])) empty ∙ append-nil text) all
 
 -- whether a write came to its end or not, a front was taken

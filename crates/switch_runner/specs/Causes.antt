@@ -28,16 +28,17 @@ pub record Seen : Type 0 where
 -- what a call for these two names saw
 abbrev pub saw : (List ℕ → Option (List ℕ)) → (List ℕ → ℕ) → (List ℕ → ℕ) → ℕ → ℕ → Option (List ℕ) → Option (List ℕ) → List ℕ → List ℕ → Seen
 saw told before after out_before out_after old new program capture = record {
-    text = told program;
-    bytes = told capture;
-    program_before = before program;
-    program_after = after program;
-    capture_before = before capture;
-    capture_after = after capture;
-    out_before = out_before;
-    out_after = out_after;
-    old = old;
-    new = new }
+  text = told program;
+  bytes = told capture;
+  program_before = before program;
+  program_after = after program;
+  capture_before = before capture;
+  capture_after = after capture;
+  out_before = out_before;
+  out_after = out_after;
+  old = old;
+  new = new;
+}
 
 -- the told text is accepted as some program
 abbrev pub IsProgram : List ℕ → Type 0
@@ -61,7 +62,7 @@ pub record OfReport (seen : Seen) (P : List ℕ → Type 0) : Type 0 where
   pub program : IfSome seen.text IsProgram
   pub capture : IfSome seen.bytes IsSomeCapture
   pub report : IfSome seen.text (λ text. IfSome seen.bytes (λ bytes.
-    (p : Program) × (records : List Record) × IsAccepted text p × IsCapture bytes records × P (Report.report p (headers p.packet.fields records))))
+      (p : Program) × (records : List Record) × IsAccepted text p × IsCapture bytes records × P (Report.report p (headers p.packet.fields records))))
 
 -- the output is as it was
 abbrev pub IsUnwritten : Seen → Type 0

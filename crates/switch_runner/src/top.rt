@@ -230,7 +230,15 @@ fn run_and_report<K: Sink>(
         return Status::NoMemory;
     };
     let count = headers.count();
-    match write_report(block, out, count, &resolved.fields, &end.packets, &resolved.cells, &end.cells) {
+    match write_report(
+        block,
+        out,
+        count,
+        &resolved.fields,
+        &end.packets,
+        &resolved.cells,
+        &end.cells,
+    ) {
         Ok(()) => Status::Done,
         Err(Failed) => Status::WriteFault,
     }

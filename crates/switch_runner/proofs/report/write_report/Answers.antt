@@ -11,8 +11,8 @@ returns-in_err-put_report-clause-cause g c =
 pub returns-clause-err : goal.returns-clause-err
 returns-clause-err g c =
     IfErr-weaker c.flush.result _ _
-        (λ _ front. took_flushed _
-            (at c.args.block (g.K.Sink.taken c.args.out.now) (g.K.Sink.faults c.args.out.now))
-            (at c.put_report.new.block (g.K.Sink.taken c.put_report.new.out) (g.K.Sink.faults c.put_report.new.out))
-            (g.K.Sink.taken c.flush.new.out) c.requires.empty c.in_ok-put_report.ensures front)
-        c.flush.ensures.err
+    (λ _ front. took_flushed _
+    (at c.args.block (g.K.Sink.taken c.args.out.now) (g.K.Sink.faults c.args.out.now))
+    (at c.put_report.new.block (g.K.Sink.taken c.put_report.new.out) (g.K.Sink.faults c.put_report.new.out))
+    (g.K.Sink.taken c.flush.new.out) c.requires.empty c.in_ok-put_report.ensures front)
+    c.flush.ensures.err

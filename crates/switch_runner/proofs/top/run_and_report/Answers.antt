@@ -17,7 +17,8 @@ write_report-requires g c =
     record {
       empty = c.in-Ok-new.ensures;
       packets = words_length c.args.resolved.now p c.args.headers.now c.count-count.result c.deref.result.now c.deref-3.result.now s c.requires.wide c.count-count.ensures.count f;
-      values = cells_length c.args.resolved.now p c.args.headers.now c.deref-2.result.now c.deref.result.now c.deref-3.result.now s c.deref-2.ensures.value f }
+      values = cells_length c.args.resolved.now p c.args.headers.now c.deref-2.result.now c.deref.result.now c.deref-3.result.now s c.deref-2.ensures.value f;
+    }
 
 pub returns-in-Ok-write_report : goal.returns-in-Ok-write_report
 returns-in-Ok-write_report g c = λ p s.
@@ -25,13 +26,14 @@ returns-in-Ok-write_report g c = λ p s.
     let f : IsEnd (one p c.args.headers.now) c.deref.result.now c.deref-3.result.now = record { packets = c.deref.ensures.value ∙ e.packets; registers = c.deref-3.ensures.value ∙ e.registers } in
     c.in-Ok-write_report.ensures.ok
     ∙ ap (λ l. gained l (g.K.Sink.taken c.args.out.now))
-        (text_is c.args.resolved.now p c.args.headers.now c.count-count.result c.deref-2.result.now c.deref.result.now c.deref-3.result.now s c.requires.wide c.count-count.ensures.count c.deref-2.ensures.value f)
+    (text_is c.args.resolved.now p c.args.headers.now c.count-count.result c.deref-2.result.now c.deref.result.now c.deref-3.result.now s c.requires.wide c.count-count.ensures.count c.deref-2.ensures.value f)
 
 pub returns : goal.returns
 returns g c = λ p s.
     let e : IsEnd (one p c.args.headers.now) c.in-Ok.end.packets.items c.in-Ok.end.cells.items = c.in-Ok.ensures p s.cells s.body in
-    let f : IsEnd (one p c.args.headers.now) c.deref.result.now c.deref-3.result.now = record { packets = c.deref.ensures.value ∙ e.packets; registers = c.deref-3.ensures.value ∙ e.registers } in
-    (c.in-Err.ensures.cause.failed,
-     subst (λ (l : List ℕ). TookFront (g.K.Sink.taken c.args.out.now) (g.K.Sink.taken c.write_report.new.out) l)
-        (text_is c.args.resolved.now p c.args.headers.now c.count-count.result c.deref-2.result.now c.deref.result.now c.deref-3.result.now s c.requires.wide c.count-count.ensures.count c.deref-2.ensures.value f)
-        c.in-Err.ensures.err)
+    let f : IsEnd (one p c.args.headers.now) c.deref.result.now c.deref-3.result.now = record { packets = c.deref.ensures.value ∙ e.packets; registers = c.deref-3.ensures.value ∙ e.registers } in (
+      c.in-Err.ensures.cause.failed,
+      subst (λ (l : List ℕ). TookFront (g.K.Sink.taken c.args.out.now) (g.K.Sink.taken c.write_report.new.out) l)
+          (text_is c.args.resolved.now p c.args.headers.now c.count-count.result c.deref-2.result.now c.deref.result.now c.deref-3.result.now s c.requires.wide c.count-count.ensures.count c.deref-2.ensures.value f)
+          c.in-Err.ensures.err,
+    )

@@ -14,13 +14,13 @@ pub returns-in-Err-read_headers-clause-because : goal.returns-in-Err-read_header
 returns-in-Err-read_headers-clause-because g c =
     let source = c.in-Ok.ensures.read in
     because_headers c.in-Err-read_headers.status
-        (saw (g.S.Store.told c.args.store.now) (g.S.Store.faults c.args.store.now) (g.S.Store.faults c.read_headers.new.store) (g.K.Sink.faults c.args.out.now) (g.K.Sink.faults c.args.out.now) (g.K.Sink.taken c.args.out.now) (g.K.Sink.taken c.args.out.now) c.args.program.now c.args.capture.now)
-        (if_told (g.S.Store.told c.args.store.now c.args.program.now) (λ text. IsAccepted text source.0) IsProgram (λ text a. (source.0, a)) source.2)
-        (headers_earlier c.in-Err-read_headers.status (g.S.Store.told c.args.store.now c.args.capture.now) (g.S.Store.faults c.args.store.now c.args.capture.now) (g.S.Store.faults c.read_source.new.store c.args.capture.now) (g.S.Store.faults c.read_headers.new.store c.args.capture.now)
-            (none_falls (g.S.Store.faults c.args.store.now) (g.S.Store.faults c.read_source.new.store) c.args.program.now c.args.capture.now c.in-Ok.ensures.others c.in-Ok.ensures.later)
-            (subst (λ (told : Option (List ℕ)). NoHeaders told (g.S.Store.faults c.read_source.new.store c.args.capture.now) (g.S.Store.faults c.read_headers.new.store c.args.capture.now) c.in-Err-read_headers.status)
-                (c.in-Ok.ensures.keeps c.args.capture.now) c.in-Err-read_headers.ensures.refused))
-        refl
+    (saw (g.S.Store.told c.args.store.now) (g.S.Store.faults c.args.store.now) (g.S.Store.faults c.read_headers.new.store) (g.K.Sink.faults c.args.out.now) (g.K.Sink.faults c.args.out.now) (g.K.Sink.taken c.args.out.now) (g.K.Sink.taken c.args.out.now) c.args.program.now c.args.capture.now)
+    (if_told (g.S.Store.told c.args.store.now c.args.program.now) (λ text. IsAccepted text source.0) IsProgram (λ text a. (source.0, a)) source.2)
+    (headers_earlier c.in-Err-read_headers.status (g.S.Store.told c.args.store.now c.args.capture.now) (g.S.Store.faults c.args.store.now c.args.capture.now) (g.S.Store.faults c.read_source.new.store c.args.capture.now) (g.S.Store.faults c.read_headers.new.store c.args.capture.now)
+    (none_falls (g.S.Store.faults c.args.store.now) (g.S.Store.faults c.read_source.new.store) c.args.program.now c.args.capture.now c.in-Ok.ensures.others c.in-Ok.ensures.later)
+    (subst (λ (told : Option (List ℕ)). NoHeaders told (g.S.Store.faults c.read_source.new.store c.args.capture.now) (g.S.Store.faults c.read_headers.new.store c.args.capture.now) c.in-Err-read_headers.status)
+    (c.in-Ok.ensures.keeps c.args.capture.now) c.in-Err-read_headers.ensures.refused))
+    refl
 
 pub run_and_report-requires-clause-wide : goal.run_and_report-requires-clause-wide
 run_and_report-requires-clause-wide g c =
@@ -32,8 +32,8 @@ returns-clause-because g c =
     let source = c.in-Ok.ensures.read in
     let read = c.in-Ok-read_headers.ensures.read in
     because_ran c.run_and_report.result
-        (saw (g.S.Store.told c.args.store.now) (g.S.Store.faults c.args.store.now) (g.S.Store.faults c.read_headers.new.store) (g.K.Sink.faults c.args.out.now) (g.K.Sink.faults c.run_and_report.new.out) (g.K.Sink.taken c.args.out.now) (g.K.Sink.taken c.run_and_report.new.out) c.args.program.now c.args.capture.now)
-        source.0 read.0 source.2
-        (subst (λ (told : Option (List ℕ)). IfSome told (λ bytes. IsCapture bytes read.0)) (c.in-Ok.ensures.keeps c.args.capture.now) read.2)
-        (subst (λ (hs : List (List ℤ)). Ends (report source.0 hs) (g.K.Sink.taken c.args.out.now) (g.K.Sink.taken c.run_and_report.new.out) (g.K.Sink.faults c.args.out.now) (g.K.Sink.faults c.run_and_report.new.out) c.run_and_report.result)
-            (read.1 ∙ ap (λ fields. headers fields read.0) source.1.fields) (c.run_and_report.ensures source.0 source.1))
+    (saw (g.S.Store.told c.args.store.now) (g.S.Store.faults c.args.store.now) (g.S.Store.faults c.read_headers.new.store) (g.K.Sink.faults c.args.out.now) (g.K.Sink.faults c.run_and_report.new.out) (g.K.Sink.taken c.args.out.now) (g.K.Sink.taken c.run_and_report.new.out) c.args.program.now c.args.capture.now)
+    source.0 read.0 source.2
+    (subst (λ (told : Option (List ℕ)). IfSome told (λ bytes. IsCapture bytes read.0)) (c.in-Ok.ensures.keeps c.args.capture.now) read.2)
+    (subst (λ (hs : List (List ℤ)). Ends (report source.0 hs) (g.K.Sink.taken c.args.out.now) (g.K.Sink.taken c.run_and_report.new.out) (g.K.Sink.faults c.args.out.now) (g.K.Sink.faults c.run_and_report.new.out) c.run_and_report.result)
+    (read.1 ∙ ap (λ fields. headers fields read.0) source.1.fields) (c.run_and_report.ensures source.0 source.1))
