@@ -1,10 +1,10 @@
 -- Texts put one after another are put as one.
-use Rattle.std.proofs.Common.{◌≡◌, ◌∙◌, ◌≤◌, ◌<◌, ◌+◌, get_or, add-one, drop-cons, Result, Ok, Err, ◌^◌, ◌-◌, ℕ, List, [], ◌∷◌, ◌++◌, length, take, drop, Option, Some, None, refl, sym, ap, subst, arith, append_assoc, min}
+use Rattle.std.proofs.Common.{◌≡◌, ◌∙◌, ◌≤◌, ◌<◌, ◌+◌, get_or, add-one, drop-cons, Result, Ok, Err, ◌^◌, ◌-◌, ℕ, List, [], ◌++◌, length, take, drop, Option, Some, None, refl, sym, ap, subst, arith, append_assoc, min}
 use Rattle.std.proofs.lemmas.List.{append-nil, append_cancel_left, take-append-drop}
 use Rattle.std.specs.List.{flat_map}
 use Rattle.std.specs.Prelude.{OnOk, OnErr}
 use Rattle.std.proofs.Math.Seq.{take-append-add, take-append_seam, take-length, take-nil}
-use Rattle.switch_runner.specs.Outside.{Rose, TookFront, gained}
+use Rattle.switch_runner.specs.Outside.{TookFront, gained}
 use Rattle.switch_runner.specs.Writing.{At, Wrote, Broke, Puts}
 use Rattle.switch_runner.proofs.TransferLemmas.{TookFront-first, TookFront-second}
 

@@ -1,4 +1,3 @@
-use Rattle.std.proofs.Common.{◌≡◌, ◌<◌, ◌++◌, length, get_or, drop, arith}
 use Rattle.switch_runner.proofs.WritingLemmas.{goes_on, goes_broken, flat_map_from}
 use Rattle.switch_runner.proofs.report.put_all.Goals as goal
 

@@ -1,4 +1,4 @@
-use Rattle.std.proofs.Common.{◌≡◌, ◌++◌, ℕ, List, drop}
+use Rattle.std.proofs.Common.{drop}
 use Rattle.std.specs.List.{flat_map}
 use Rattle.switch_runner.specs.Writing.{at}
 use Rattle.switch_runner.proofs.WritingLemmas.{Goes}

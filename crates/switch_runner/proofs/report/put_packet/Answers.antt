@@ -1,7 +1,5 @@
-use Rattle.std.proofs.Common.{◌≡◌, ◌∙◌, ◌++◌, ◌∷◌, [], refl}
+use Rattle.std.proofs.Common.{◌∙◌, refl}
 use Rattle.std.proofs.lemmas.Result.{err_from_is_err_and}
-use Rattle.switch_runner.specs.Report.{fields_text}
-use Rattle.switch_runner.specs.Writing.{at, Wrote}
 use Rattle.switch_runner.proofs.ReportLemmas.{packet_parts}
 use Rattle.switch_runner.proofs.WritingLemmas.{goes_start, goes_on, goes_broken, puts_last}
 use Rattle.switch_runner.proofs.report.put_packet.Goals as goal

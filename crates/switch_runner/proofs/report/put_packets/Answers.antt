@@ -1,7 +1,5 @@
-use Rattle.std.proofs.Common.{◌≡◌, ◌∙◌, ◌≤◌, ◌-◌, ◌+◌, ◌*◌, ℕ, length, take, drop, sym, ap, arith}
-use Rattle.capture_io.specs.Rows.{rows}
-use Rattle.switch_runner.specs.Report.{packet_lines}
-use Rattle.switch_runner.proofs.ReportLemmas.{packets_from, row_fits, row_left}
+use Rattle.std.proofs.Common.{◌≡◌, ◌∙◌, ◌-◌, ◌+◌, length, sym, ap, arith}
+use Rattle.switch_runner.proofs.ReportLemmas.{packets_from, row_left}
 use Rattle.switch_runner.proofs.WritingLemmas.{goes_start, goes_on, goes_broken}
 use Rattle.switch_runner.proofs.report.put_packets.Goals as goal
 

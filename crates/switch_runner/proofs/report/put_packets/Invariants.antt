@@ -1,4 +1,4 @@
-use Rattle.std.proofs.Common.{◌≡◌, ◌+◌, ◌-◌, ◌*◌, length}
+use Rattle.std.proofs.Common.{◌≡◌, ◌-◌, ◌*◌, length}
 use Rattle.capture_io.specs.Rows.{rows}
 use Rattle.switch_runner.specs.Writing.{at}
 use Rattle.switch_runner.specs.Report.{packet_lines}

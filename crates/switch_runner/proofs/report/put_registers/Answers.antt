@@ -1,4 +1,4 @@
-use Rattle.std.proofs.Common.{◌≡◌, ◌<◌, ◌++◌, length, get_or, drop, pos, arith, rules, w32, FitsSigned}
+use Rattle.std.proofs.Common.{get_or, pos, arith, rules, w32, FitsSigned}
 use Rattle.std.proofs.lemmas.Int.{to_z-of_z}
 use Rattle.switch_runner.proofs.ReportLemmas.{registers_from}
 use Rattle.switch_runner.proofs.WritingLemmas.{goes_on, goes_broken}

@@ -1,9 +1,8 @@
-use Rattle.std.proofs.Common.{◌≡◌, ◌∙◌, List, ℕ, ap, subst}
+use Rattle.std.proofs.Common.{◌∙◌, List, ℕ, ap, subst}
 use Rattle.domino_tree.specs.declared.program.Program.{Program}
 use Rattle.domino_tree.specs.Meaning.{one}
 use Rattle.switch_runner.specs.Numbered.{IsEnd}
 use Rattle.switch_runner.specs.Outside.{TookFront, gained}
-use Rattle.switch_runner.specs.Report.{report}
 use Rattle.switch_runner.specs.Top.{Stands}
 use Rattle.switch_runner.proofs.TopLemmas.{words_length, cells_length, text_is}
 use Rattle.switch_runner.proofs.top.run_and_report.Goals as goal

@@ -1,7 +1,5 @@
-use Rattle.std.proofs.Common.{List, ℕ, map}
-use Rattle.std.specs.Prelude.{string_bytes}
-use Rattle.switch_runner.specs.Causes.{Seen, saw, Because, ProgramAlways, CaptureAlways, IsComplete}
-use Rattle.switch_runner.specs.CommandLine.{asked}
+use Rattle.std.proofs.Common.{List, ℕ}
+use Rattle.switch_runner.specs.Causes.{saw}
 use Rattle.switch_runner.proofs.CauseLemmas.{program_always, capture_always, complete, if_asked}
 use Rattle.switch_runner.proofs.top.switch_top.Goals as goal
 

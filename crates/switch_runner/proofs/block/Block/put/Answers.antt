@@ -1,4 +1,4 @@
-use Rattle.std.proofs.Common.{◌∙◌, ◌≤◌, ◌++◌, ap, arith}
+use Rattle.std.proofs.Common.{◌∙◌, ◌++◌, ap, arith}
 use Rattle.switch_runner.specs.Writing.{at}
 use Rattle.switch_runner.proofs.TransferLemmas.{TookFront-first, TookFront-second}
 use Rattle.switch_runner.proofs.WritingLemmas.{wrote_flushed, wrote_through}
