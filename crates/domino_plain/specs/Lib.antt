@@ -1,0 +1,2 @@
+pub use Rattle.domino_tree.specs.Meaning
+pub mod Parts
