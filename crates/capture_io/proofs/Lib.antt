@@ -1,7 +1,9 @@
 pub mod Options
-pub mod Tags
+pub mod HeaderLaws
 pub mod RecordLaws
 pub mod CaptureLaws
+pub mod Tags
 pub mod PacketRows
+pub mod Packets
 pub mod Walk
 pub mod WholeCapture

@@ -1,12 +1,12 @@
 -- The words of a capture, cut into the rows of its packets.
-use Rattle.std.proofs.Common.{◌≡◌, ℕ, zero, suc, ◌+◌, ◌*◌, ◌<◌, ◌≤◌, Bool, true, false, cond, ℤ, pos, List, [], ◌∷◌, ◌++◌, length, take, drop, map, codes, bytes_eq, Some, refl, sym, ap, ◌∙◌, arith}
+use Rattle.std.proofs.Common.{◌≡◌, ℕ, zero, suc, ◌+◌, ◌*◌, ◌<◌, ◌≤◌, Bool, true, false, cond, ℤ, List, [], ◌∷◌, ◌++◌, length, take, drop, map, codes, bytes_eq, Some, refl, sym, ap, ◌∙◌, arith}
 use Rattle.std.specs.Prelude.{slice_get}
 use Rattle.std.proofs.Common.{ap₂, mul-le-mul_right}
 use Rattle.std.proofs.lemmas.List.{take_at, drop_at, drop-drop, length-append, length-map}
 use Rattle.capture_io.specs.declared.source.Source.{Source}
-use Rattle.capture_io.specs.declared.source.Source.TheVariants.{SourcePort, DestinationPort, Unfilled}
+use Rattle.capture_io.specs.declared.source.Source.TheVariants.{Arrival, OriginalLength, TypeOfService, TimeToLive, Protocol, SourceAddress, DestinationAddress, SourcePort, DestinationPort}
 use Rattle.capture_io.specs.ClassicCapture.{Record}
-use Rattle.capture_io.specs.Header.{port, field, headers}
+use Rattle.capture_io.specs.Header.{field, header, start_of, headers}
 use Rattle.capture_io.specs.Fields.{source, value, fields, words}
 use Rattle.capture_io.specs.Rows.{rows}
 
@@ -24,37 +24,48 @@ slice_get-rows (suc n) width ws (suc t) h =
     let behind : width + t * width ≡ suc t * width = omega arith in
     slice_get-rows n width (drop width ws) t (omega arith) ∙ ap (λ (l : List ℤ). Some (take width l)) (drop-drop (t * width) width ws ∙ ap (λ (k : ℕ). drop k ws) behind)
 
-pub length-words : (sources : List Source) (rs : List Record) → length (words sources rs) ≡ length rs * length sources
-length-words sources [] = omega arith
-length-words sources (r ∷ rs) =
-    omega (arith, length-words sources rs, length-append (fields sources r) (words sources rs), length-map sources (value r.frame))
+pub length-words : (sources : List Source) (start : ℕ) (rs : List Record) → length (words sources start rs) ≡ length rs * length sources
+length-words sources start [] = omega arith
+length-words sources start (r ∷ rs) =
+    omega (arith, length-words sources start rs, length-append (fields sources start r) (words sources start rs), length-map sources (value start r))
 
-pub rows-words : (sources : List Source) (rs : List Record) → rows (length rs) (length sources) (words sources rs) ≡ map (fields sources) rs
-rows-words sources [] = refl
-rows-words sources (r ∷ rs) =
-    let width = length-map sources (value r.frame) in
-    let first : take (length sources) (fields sources r ++ words sources rs) ≡ fields sources r = take_at (fields sources r) (words sources rs) (length sources) width in
-    let after : drop (length sources) (fields sources r ++ words sources rs) ≡ words sources rs = drop_at (fields sources r) (words sources rs) (length sources) width in
-    ap₂ ◌∷◌ first (ap (rows (length rs) (length sources)) after ∙ rows-words sources rs)
+pub rows-words : (sources : List Source) (start : ℕ) (rs : List Record) → rows (length rs) (length sources) (words sources start rs) ≡ map (fields sources start) rs
+rows-words sources start [] = refl
+rows-words sources start (r ∷ rs) =
+    let width = length-map sources (value start r) in
+    let first : take (length sources) (fields sources start r ++ words sources start rs) ≡ fields sources start r = take_at (fields sources start r) (words sources start rs) (length sources) width in
+    let after : drop (length sources) (fields sources start r ++ words sources start rs) ≡ words sources start rs = drop_at (fields sources start r) (words sources start rs) (length sources) width in
+    ap₂ ◌∷◌ first (ap (rows (length rs) (length sources)) after ∙ rows-words sources start rs)
 
-value_if : (frame : List ℕ) (a b : Bool) → value frame (cond a SourcePort (cond b DestinationPort Unfilled)) ≡ cond a (pos (port 0 frame)) (cond b (pos (port 2 frame)) (pos 0))
-value_if frame true b = refl
-value_if frame false true = refl
-value_if frame false false = refl
+-- the value of a source that is chosen by a test
+chosen : (start : ℕ) (r : Record) (b : Bool) (s others : Source) (z : ℤ) → value start r others ≡ z → value start r (cond b s others) ≡ cond b (value start r s) z
+chosen start r true s others z e = refl
+chosen start r false s others z e = e
 
-fields-names : (names : List (List ℕ)) (r : Record) → fields (map source names) r ≡ map (field r) names
-fields-names [] r = refl
-fields-names (name ∷ names) r =
-    ap₂ ◌∷◌ (value_if r.frame (bytes_eq name (codes "sport")) (bytes_eq name (codes "dport"))) (fields-names names r)
+value-source : (start : ℕ) (r : Record) (name : List ℕ) → value start r (source name) ≡ field start r name
+value-source start r name =
+    chosen start r (bytes_eq name (codes "arrival")) Arrival _ _
+    (chosen start r (bytes_eq name (codes "len")) OriginalLength _ _
+    (chosen start r (bytes_eq name (codes "tos")) TypeOfService _ _
+    (chosen start r (bytes_eq name (codes "ttl")) TimeToLive _ _
+    (chosen start r (bytes_eq name (codes "proto")) Protocol _ _
+    (chosen start r (bytes_eq name (codes "saddr")) SourceAddress _ _
+    (chosen start r (bytes_eq name (codes "daddr")) DestinationAddress _ _
+    (chosen start r (bytes_eq name (codes "sport")) SourcePort _ _
+    (chosen start r (bytes_eq name (codes "dport")) DestinationPort _ _ refl))))))))
 
-each-names : (names : List (List ℕ)) (rs : List Record) → map (fields (map source names)) rs ≡ headers names rs
-each-names names [] = refl
-each-names names (r ∷ rs) = ap₂ ◌∷◌ (fields-names names r) (each-names names rs)
+fields-names : (names : List (List ℕ)) (start : ℕ) (r : Record) → fields (map source names) start r ≡ header names start r
+fields-names [] start r = refl
+fields-names (name ∷ names) start r = ap₂ ◌∷◌ (value-source start r name) (fields-names names start r)
 
--- a capture's rows are its records' fields
-pub rows_are_headers : (names : List (List ℕ)) (rs : List Record) → rows (length rs) (length names) (words (map source names) rs) ≡ headers names rs
+each-names : (names : List (List ℕ)) (start : ℕ) (rs : List Record) → map (fields (map source names) start) rs ≡ map (header names start) rs
+each-names names start [] = refl
+each-names names start (r ∷ rs) = ap₂ ◌∷◌ (fields-names names start r) (each-names names start rs)
+
+-- the rows of a capture are the fields of its records
+pub rows_are_headers : (names : List (List ℕ)) (rs : List Record) → rows (length rs) (length names) (words (map source names) (start_of rs) rs) ≡ headers names rs
 rows_are_headers names rs =
-    ap (λ (k : ℕ). rows (length rs) k (words (map source names) rs)) (sym (length-map names source)) ∙ (rows-words (map source names) rs ∙ each-names names rs)
+    ap (λ (k : ℕ). rows (length rs) k (words (map source names) (start_of rs) rs)) (sym (length-map names source)) ∙ (rows-words (map source names) (start_of rs) rs ∙ each-names names (start_of rs) rs)
 
 -- a row is within the rows
 pub row_within : (t n width : ℕ) → t < n → t * width + width ≤ n * width

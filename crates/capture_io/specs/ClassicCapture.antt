@@ -1,44 +1,45 @@
 -- The classic capture file: a file header, and records one after another. The format is that of pcap
--- savefiles, here with numbers least significant byte first and moments in microseconds.
-use Rattle.std.specs.Prelude.{◌≡◌, ◌≤◌, ℕ, ◌%◌, List, [], ◌∷◌, ◌++◌, length, take, drop}
-use Rattle.byteorder.specs.Endian.{little_number}
+-- savefiles, in either byte order, with moments in microseconds or nanoseconds.
+use Rattle.std.specs.Prelude.{◌≡◌, ◌≤◌, ℕ, ◌%◌, List, [], ◌∷◌, ◌++◌, length, drop}
+use Rattle.byteorder.specs.Endian.{big_number}
+use Rattle.capture_io.specs.declared.encoding.Encoding.{Encoding}
+use Rattle.capture_io.specs.Encoding.{number_of, magic, moment}
 
--- a record: its moment as seconds and a fraction, the frame's original length, and its captured bytes
+-- a record: its moment in microseconds, the frame's original length, and its captured bytes
 pub record Record : Type 0 where
-  pub seconds : ℕ
-  pub fraction : ℕ
+  pub moment : ℕ
   pub original : ℕ
   pub frame : List ℕ
 
 -- 24 bytes: magic, version 2.4, zone, sigfigs, snaplen (which aren't looked at), and the link word, whose
 -- low 16 bits are 1 for Ethernet
-pub record IsFileHeader (head : List ℕ) : Type 0 where
+pub record IsFileHeader (e : Encoding) (head : List ℕ) : Type 0 where
   pub size : length head ≡ 24
-  pub magic : take 4 head ≡ 0xd4 ∷ 0xc3 ∷ 0xb2 ∷ 0xa1 ∷ []
-  pub major : little_number 2 (drop 4 head) ≡ 2
-  pub minor : little_number 2 (drop 6 head) ≡ 4
-  pub link : little_number 4 (drop 20 head) % 65536 ≡ 1
+  pub magic : big_number 4 head ≡ magic e.order e.resolution
+  pub major : number_of e.order 2 (drop 4 head) ≡ 2
+  pub minor : number_of e.order 2 (drop 6 head) ≡ 4
+  pub link : number_of e.order 4 (drop 20 head) % 65536 ≡ 1
 
 -- 16 bytes: seconds, fraction, captured length and original length, four bytes each
-pub record IsRecordHeader (head : List ℕ) (r : Record) : Type 0 where
+pub record IsRecordHeader (e : Encoding) (head : List ℕ) (r : Record) : Type 0 where
   pub size : length head ≡ 16
-  pub seconds : little_number 4 head ≡ r.seconds
-  pub fraction : little_number 4 (drop 4 head) ≡ r.fraction
-  pub captured : little_number 4 (drop 8 head) ≡ length r.frame
-  pub original : little_number 4 (drop 12 head) ≡ r.original
+  pub moment : moment e.resolution (number_of e.order 4 head) (number_of e.order 4 (drop 4 head)) ≡ r.moment
+  pub captured : number_of e.order 4 (drop 8 head) ≡ length r.frame
+  pub original : number_of e.order 4 (drop 12 head) ≡ r.original
   pub limit : length r.frame ≤ 262144
 
 -- the bytes are these records one after another, and nothing after them
-abbrev pub AreRecords : List ℕ → List Record → Type 0
-AreRecords bytes [] = bytes ≡ []
-AreRecords bytes (r ∷ rs) = (head rest : List ℕ) × IsRecordHeader head r × (bytes ≡ head ++ (r.frame ++ rest)) × AreRecords rest rs
+abbrev pub AreRecords : Encoding → List ℕ → List Record → Type 0
+AreRecords e bytes [] = bytes ≡ []
+AreRecords e bytes (r ∷ rs) = (head rest : List ℕ) × IsRecordHeader e head r × (bytes ≡ head ++ (r.frame ++ rest)) × AreRecords e rest rs
 
 -- the bytes are a capture of these records
 pub record IsCapture (bytes : List ℕ) (records : List Record) : Type 0 where
   pub size : length bytes ≤ 134217728
   pub count : length records ≤ 262144
+  pub encoding : Encoding
   pub head : List ℕ
   pub rest : List ℕ
-  pub file : IsFileHeader head
+  pub file : IsFileHeader encoding head
   pub whole : bytes ≡ head ++ rest
-  pub each : AreRecords rest records
+  pub each : AreRecords encoding rest records

@@ -1,4 +1,6 @@
+pub mod Encoding
 pub mod ClassicCapture
+pub mod Refusal
 pub mod Header
 pub mod Reading
 pub mod Fields

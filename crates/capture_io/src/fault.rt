@@ -4,12 +4,37 @@ ghost use Rattle.capture_io.specs.declared.fault.CaptureFault.TheVariants.{NoMem
 use std::alloc::{AllocError, AllocFailed};
 use thiserror::Error;
 
-/// Why bytes aren't read as a capture.
-#[derive(Debug, Drop, Error)]
+/// Why bytes aren't read as a capture: the first of these that holds, in this order, but that the
+/// records are judged one after another.
+#[derive(Clone, Copy, Debug, PartialEq, Eq, Error)]
 pub enum CaptureFault {
-    /// The bytes aren't a capture of the profile.
-    #[error("the bytes are no capture of the profile")]
-    NotYet,
+    /// There are so many bytes, more than a capture may have.
+    #[error("there are {0} bytes, more than a capture may have")]
+    TooLong(u64),
+    /// There are so many bytes, fewer than a file header has.
+    #[error("there are {0} bytes, fewer than a file header has")]
+    ShortHeader(u32),
+    /// The bytes begin a pcapng file.
+    #[error("this is a pcapng file")]
+    PcapNg,
+    /// The first four bytes, most significant first, are this word, and no magic.
+    #[error("the first word {0:08x} is no magic")]
+    BadMagic(u32),
+    /// The version isn't 2.4, but this major and this minor version.
+    #[error("the version is {0}.{1} and not 2.4")]
+    Version(u16, u16),
+    /// The low 16 bits of this link word aren't 1, for Ethernet.
+    #[error("the link word is {0}, which isn't Ethernet")]
+    LinkType(u32),
+    /// The record at this byte has this captured length, more than a record may have.
+    #[error("the record at byte {0} has captured length {1}, more than a record may have")]
+    LongRecord(u32, u32),
+    /// The record that starts at this byte doesn't end within the bytes.
+    #[error("the record at byte {0} is cut")]
+    Truncated(u32),
+    /// This is the number of the first record past those that a capture may have.
+    #[error("there are {0} records or more")]
+    TooMany(u32),
     /// Memory ran out.
     #[error("out of memory")]
     NoMemory,

@@ -1,6 +1,6 @@
-//! The ports of a frame.
+//! The IPv4 header of a frame, and the ports behind it.
 
-ghost use Rattle.std.specs.Prelude.{◌≡◌, ◌≤◌, ◌+◌, length, drop, true, false, MatchOption};
+ghost use Rattle.std.specs.Prelude.{◌≡◌, ◌≤◌, length};
 ghost use Rattle.capture_io.specs.Header as header;
 
 use byteorder::{BigEndian, ByteOrder};
@@ -15,45 +15,16 @@ const TCP: u8 = 6;
 
 const UDP: u8 = 17;
 
-/// The ports of a TCP or UDP packet, each 0 where the frame doesn't have it.
-#[derive(Clone, Copy)]
-pub struct Ports {
-    pub source: u16,
-    pub destination: u16,
-}
-
-/// The ports of the packet in a frame.
-pub fn ports_of(frame: &[u8]) -> Ports
+/// The captured bytes from the IPv4 header on: none where the frame has no such header.
+pub fn ipv4(frame: &[u8]) -> &[u8]
     requires { length frame.now ≤ 262144 }
-    ensures source { result.source ≡ header.port 0 frame.now }
-    ensures destination { result.destination ≡ header.port 2 frame.now }
-{
-    match ipv4(frame) {
-        Some(packet) if has_ports(packet) => {
-            let at = header_len(packet);
-            Ports {
-                source: number16_at(packet, at),
-                destination: number16_at(packet, at + 2),
-            }
-        }
-        _ => Ports {
-            source: 0,
-            destination: 0,
-        },
-    }
-}
-
-// What an IPv4 header begins, if the frame has one.
-fn ipv4(frame: &[u8]) -> Option<&[u8]>
-    requires { length frame.now ≤ 262144 }
-    ensures { MatchOption result (header.has_ipv4 frame.now ≡ false)
-        (λ packet. (header.has_ipv4 frame.now ≡ true) × (packet.now ≡ header.ipv4 frame.now)) }
+    ensures { result.now ≡ header.ipv4 frame.now }
 {
     let at = type_at(frame);
     if number16_at(frame, at) == IPV4 {
-        Some(&frame[at + 2..])
+        &frame[at + 2..]
     } else {
-        None
+        &[]
     }
 }
 
@@ -75,6 +46,19 @@ fn is_tag(kind: u16) -> bool
     kind == TAG || kind == SERVICE_TAG
 }
 
+/// The port that stands so many bytes behind the IPv4 header that begins the packet; 0 where there is
+/// none.
+pub fn port(packet: &[u8], past: usize) -> u16
+    requires { past ≤ 2 }
+    ensures { result ≡ header.port past packet.now }
+{
+    if has_ports(packet) {
+        number16_at(packet, header_len(packet) + past)
+    } else {
+        0
+    }
+}
+
 // Whether ports follow the IPv4 header that begins the packet.
 fn has_ports(packet: &[u8]) -> bool
     ensures { result ≡ header.has_ports packet.now }
@@ -86,12 +70,14 @@ fn has_ports(packet: &[u8]) -> bool
 
 // The length in bytes that an IPv4 header gives itself.
 fn header_len(packet: &[u8]) -> usize
-    ensures { result ≡ header.header_len packet.now }
+    ensures value { result ≡ header.header_len packet.now }
+    ensures limit { result ≤ 60 }
 {
     4 * usize::from(byte_at(packet, 0) % 16)
 }
 
-fn byte_at(bytes: &[u8], at: usize) -> u8
+/// The byte at a place; 0 where it isn't captured.
+pub fn byte_at(bytes: &[u8], at: usize) -> u8
     ensures { result ≡ header.number_at 1 at bytes.now }
 {
     if at < bytes.len() { bytes[at] } else { 0 }
@@ -102,6 +88,17 @@ fn number16_at(bytes: &[u8], at: usize) -> u16
 {
     if at < bytes.len() && bytes.len() - at >= 2 {
         BigEndian::read_u16(&bytes[at..])
+    } else {
+        0
+    }
+}
+
+/// The four bytes from a place on as a number, most significant first; 0 where one isn't captured.
+pub fn number32_at(bytes: &[u8], at: usize) -> u32
+    ensures { result ≡ header.number_at 4 at bytes.now }
+{
+    if at < bytes.len() && bytes.len() - at >= 4 {
+        BigEndian::read_u32(&bytes[at..])
     } else {
         0
     }

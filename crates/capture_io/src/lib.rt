@@ -5,6 +5,7 @@
 #![tactic(auto)]
 
 mod capture;
+mod encoding;
 mod fault;
 mod frame;
 mod reading;

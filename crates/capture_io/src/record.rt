@@ -1,63 +1,136 @@
 //! The file header of a capture, and its records.
 
-ghost use Rattle.std.specs.Prelude.{◌≡◌, ◌<◌, ◌≤◌, ℕ, List, length, option_map, IfSome};
+ghost use Rattle.std.specs.Prelude.{◌≡◌, ◌<◌, ◌≤◌, ◌+◌, ℕ, List, length, IfOk};
+ghost use Rattle.capture_io.specs.ClassicCapture.{Record};
+ghost use Rattle.capture_io.specs.declared.encoding.Encoding.{Encoding};
 ghost use Rattle.capture_io.specs.Reading as spec;
 
-use byteorder::{ByteOrder, LittleEndian};
+use crate::encoding::{Encoding, Order, Resolution};
+use crate::fault::CaptureFault;
+use byteorder::{BigEndian, ByteOrder};
 
-const MAGIC: [u8; 4] = [0xd4, 0xc3, 0xb2, 0xa1];
+/// A capture has at most so many bytes.
+const MAX_BYTES: usize = 134_217_728;
 
-const FILE_HEADER_LEN: usize = 24;
+/// How many bytes a file header has.
+pub const FILE_HEADER_LEN: usize = 24;
 
-const RECORD_HEADER_LEN: usize = 16;
+/// How many bytes a record header has.
+pub const RECORD_HEADER_LEN: usize = 16;
 
 const ETHERNET: u32 = 1;
 
 /// At most so many bytes of a frame are captured.
 const MAX_FRAME_LEN: u32 = 262_144;
 
-/// The bytes after the file header, if one begins them.
+/// When a record came, in microseconds, and how long its frame was.
+#[derive(Clone, Copy)]
+pub struct Stamp {
+    pub moment: u64,
+    pub original: u32,
+}
+
+/// How the file is written, and the bytes after its header.
 #[tactic(auto, unfolding(crate::specs::Reading::after_file_header))]
-pub fn after_file_header(bytes: &[u8]) -> Option<&[u8]>
-    ensures { option_map (λ rest. rest.now) result ≡ spec.after_file_header bytes.now }
+pub fn after_file_header(bytes: &[u8]) -> Result<(Encoding, &[u8]), CaptureFault>
+    ensures rest { spec.Gives {Y = Encoding × List ℕ} (λ x. (x.0, x.1.now)) result (spec.after_file_header bytes.now) }
+    ensures limit { IfOk result (λ x. 24 + length x.1.now ≤ 134217728) }
 {
+    if bytes.len() > MAX_BYTES {
+        return Err(CaptureFault::TooLong(bytes.len() as u64));
+    }
     if bytes.len() < FILE_HEADER_LEN {
-        return None;
+        return Err(CaptureFault::ShortHeader(bytes.len() as u32));
     }
     let (head, rest) = bytes.split_at(FILE_HEADER_LEN);
-    if is_file_header(head) {
-        Some(rest)
-    } else {
-        None
-    }
+    let encoding = file_header_of(head)?;
+    Ok((encoding, rest))
 }
 
-// Whether the magic, the version 2.4 and the link of Ethernet stand in a file header.
-fn is_file_header(head: &[u8]) -> bool
+// How a file with this header is written.
+#[tactic(auto, unfolding(crate::specs::Reading::file_header_of))]
+fn file_header_of(head: &[u8]) -> Result<Encoding, CaptureFault>
     requires { length head.now ≡ 24 }
-    ensures { result ≡ spec.is_file_header head.now }
+    ensures { spec.Gives (λ e. e) result (spec.file_header_of head.now) }
 {
-    head.starts_with(&MAGIC)
-        && (LittleEndian::read_u16(&head[4..]) == 2
-            && (LittleEndian::read_u16(&head[6..]) == 4
-                && LittleEndian::read_u32(&head[20..]) % 65536 == ETHERNET))
+    let encoding = encoding_of(BigEndian::read_u32(head))?;
+    let order = encoding.order;
+    let major = order.read_u16(&head[4..]);
+    let minor = order.read_u16(&head[6..]);
+    if major != 2 || minor != 4 {
+        return Err(CaptureFault::Version(major, minor));
+    }
+    let link = order.read_u32(&head[20..]);
+    if link % 65536 != ETHERNET {
+        return Err(CaptureFault::LinkType(link));
+    }
+    Ok(encoding)
 }
 
-/// The frame of the record at the front and the bytes after it, if a whole record begins the bytes.
+// How a file is written that begins with this word, most significant byte first.
+fn encoding_of(word: u32) -> Result<Encoding, CaptureFault>
+    ensures { spec.Gives (λ e. e) result (spec.encoding_of word) }
+{
+    let (order, resolution) = match word {
+        0xa1b2_c3d4 => (Order::Big, Resolution::Micro),
+        0xa1b2_3c4d => (Order::Big, Resolution::Nano),
+        0xd4c3_b2a1 => (Order::Little, Resolution::Micro),
+        0x4d3c_b2a1 => (Order::Little, Resolution::Nano),
+        0x0a0d_0d0a => return Err(CaptureFault::PcapNg),
+        _ => return Err(CaptureFault::BadMagic(word)),
+    };
+    Ok(Encoding { order, resolution })
+}
+
+/// The record at the front, which begins at this byte of the file: its stamp, its frame, and the bytes
+/// after it.
 #[tactic(auto, unfolding(crate::specs::Reading::record_at))]
-pub fn record_at(bytes: &[u8]) -> Option<(&[u8], &[u8])>
-    ensures parts { option_map {U = List ℕ × List ℕ} (λ x. (x.0.now, x.1.now)) result
-        ≡ option_map (λ x. (x.0.frame, x.1)) (spec.record_at bytes.now) }
-    ensures limit { IfSome result (λ x. length x.0.now ≤ 262144) }
-    ensures shorter { IfSome result (λ x. length x.1.now < length bytes.now) }
+pub fn record_at(
+    encoding: Encoding,
+    at: u32,
+    bytes: &[u8],
+) -> Result<(Stamp, &[u8], &[u8]), CaptureFault>
+    ensures parts { spec.Gives {Y = Record × List ℕ}
+        (λ x. (record { moment = x.0.moment; original = x.0.original; frame = x.1.now }, x.2.now)) result
+        (spec.record_at encoding at bytes.now) }
+    ensures limit { IfOk result (λ x. length x.1.now ≤ 262144) }
+    ensures sum { IfOk result (λ x. 16 + length x.1.now + length x.2.now ≡ length bytes.now) }
 {
     if bytes.len() < RECORD_HEADER_LEN {
-        return None;
+        return Err(CaptureFault::Truncated(at));
     }
     let (head, body) = bytes.split_at(RECORD_HEADER_LEN);
-    let captured = LittleEndian::read_u32(&head[8..]);
-    if captured > MAX_FRAME_LEN || captured as usize > body.len() {
-        return None;
+    let captured = encoding.order.read_u32(&head[8..]);
+    if captured > MAX_FRAME_LEN {
+        return Err(CaptureFault::LongRecord(at, captured));
     }
-    Some(body.split_at(captured as usize))
+    if captured as usize > body.len() {
+        return Err(CaptureFault::Truncated(at));
+    }
+    let stamp = Stamp {
+        moment: moment_in(encoding, head),
+        original: encoding.order.read_u32(&head[12..]),
+    };
+    let (frame, rest) = body.split_at(captured as usize);
+    Ok((stamp, frame, rest))
+}
+
+/// The moment of the record at the front, or 0 where no record header is.
+pub fn first_moment(encoding: Encoding, bytes: &[u8]) -> u64
+    ensures { result ≡ spec.first_moment encoding bytes.now }
+{
+    if bytes.len() < RECORD_HEADER_LEN {
+        return 0;
+    }
+    moment_in(encoding, &bytes[..RECORD_HEADER_LEN])
+}
+
+// The moment in a record header.
+fn moment_in(encoding: Encoding, head: &[u8]) -> u64
+    requires { length head.now ≡ 16 }
+    ensures { result ≡ spec.moment_in encoding head.now }
+{
+    let seconds = encoding.order.read_u32(head);
+    let fraction = encoding.order.read_u32(&head[4..]);
+    encoding.resolution.moment(seconds, fraction)
 }

@@ -1,34 +1,76 @@
-//! Which value of a packet each field takes.
+//! Which value of a record each field takes.
 
-ghost use Rattle.std.specs.Prelude.{◌≡◌, map, IfOk, IsOkUnless, FitsSigned};
+ghost use Rattle.std.specs.Prelude.{◌≡◌, ◌<◌, ◌^◌, pos, map, IfOk, IsOkUnless, FitsSigned};
 ghost use Rattle.std.specs.Int.{w32};
+ghost use Rattle.std.specs.List.{list_any};
+ghost use Rattle.std.specs.Str.{bytes_eq};
+ghost use Rattle.mp5_words.specs.Words.{word};
 ghost use Rattle.capture_io.specs.Fields as spec;
 
 use crate::fault::CaptureFault;
-use crate::frame::Ports;
+use crate::frame::{byte_at, number32_at, port};
 use mp5_words::{FieldNames, Name};
 use std::alloc::Global;
 
 /// Where a field's value comes from.
 #[derive(Clone, Copy)]
 pub enum Source {
+    Arrival,
+    OriginalLength,
+    TypeOfService,
+    TimeToLive,
+    Protocol,
+    SourceAddress,
+    DestinationAddress,
     SourcePort,
     DestinationPort,
     Unfilled,
 }
 
 impl Source {
-    /// The value of a packet with these ports.
-    pub fn value(self, ports: Ports) -> i32
-        ensures value { result ≡ spec.word self ports.source ports.destination }
+    /// The value of a record with this arrival, this original length, and these bytes from the IPv4
+    /// header on.
+    pub fn value(self, since: i32, original: u32, packet: &[u8]) -> i32
+        ensures value { result ≡ spec.value_in self since original packet.now }
         ensures fits { FitsSigned w32 result }
     {
         match self {
-            Source::SourcePort => i32::from(ports.source),
-            Source::DestinationPort => i32::from(ports.destination),
+            Source::Arrival => since,
+            Source::OriginalLength => as_word(original),
+            Source::TypeOfService => i32::from(byte_at(packet, 1)),
+            Source::TimeToLive => i32::from(byte_at(packet, 8)),
+            Source::Protocol => i32::from(byte_at(packet, 9)),
+            Source::SourceAddress => as_word(number32_at(packet, 12)),
+            Source::DestinationAddress => as_word(number32_at(packet, 16)),
+            Source::SourcePort => i32::from(port(packet, 0)),
+            Source::DestinationPort => i32::from(port(packet, 2)),
             Source::Unfilled => 0,
         }
     }
+
+    /// Whether the value is read from the IPv4 header and what follows it.
+    pub fn is_in_packet(self) -> bool
+        ensures { result ≡ spec.is_in_packet self }
+    {
+        !matches!(
+            self,
+            Source::Arrival | Source::OriginalLength | Source::Unfilled
+        )
+    }
+}
+
+// The word that differs from the number by a multiple of 2^32.
+fn as_word(number: u32) -> i32
+    ensures { result ≡ word (pos number) }
+{
+    number.cast_signed()
+}
+
+/// Whether one of the sources is read from the IPv4 header and what follows it.
+pub fn reads_packet(sources: &[Source]) -> bool
+    ensures { result ≡ list_any spec.is_in_packet sources.now }
+{
+    sources.iter().any(|source| source.is_in_packet())
 }
 
 /// The source of each field, in order of declaration.
@@ -46,11 +88,31 @@ pub fn sources_of(alloc: Global, names: &FieldNames) -> Result<Vec<Source>, Capt
 fn source_of(name: &Name) -> Source
     ensures { result ≡ spec.source name.now }
 {
-    if name.bytes() == b"sport".as_slice() {
+    if is_named(name, b"arrival") {
+        Source::Arrival
+    } else if is_named(name, b"len") {
+        Source::OriginalLength
+    } else if is_named(name, b"tos") {
+        Source::TypeOfService
+    } else if is_named(name, b"ttl") {
+        Source::TimeToLive
+    } else if is_named(name, b"proto") {
+        Source::Protocol
+    } else if is_named(name, b"saddr") {
+        Source::SourceAddress
+    } else if is_named(name, b"daddr") {
+        Source::DestinationAddress
+    } else if is_named(name, b"sport") {
         Source::SourcePort
-    } else if name.bytes() == b"dport".as_slice() {
+    } else if is_named(name, b"dport") {
         Source::DestinationPort
     } else {
         Source::Unfilled
     }
+}
+
+fn is_named(name: &Name, bytes: &[u8]) -> bool
+    ensures { result ≡ bytes_eq name.now bytes.now }
+{
+    name.bytes() == bytes
 }

@@ -1,7 +1,7 @@
 //! How calls end: words that aren't taken, and reads and writes that fail.
 use crate::fixture::{
-    COUNT, COUNTED, FILE_HEADER, assert_ended, call, file, packets, sink, store_of, text_of,
-    words_of,
+    COUNT, COUNTED, FILE_HEADER, assert_ended, assert_refused, call, file, packets, sink, store_of,
+    text_of, words_of,
 };
 use std::alloc::{AllocError, Global};
 use std::test::Fail;
@@ -54,17 +54,27 @@ fn words(rt: HostRuntime) -> Result<(), Fail> {
     for (code, out, lines) in [
         (0, COUNTED, "mp5 one p c|-x one p c|gen:1 one p c| one p c"),
         (3, "", "mp5 one c c|mp5 one c p|mp5 one q c"),
-        (
-            4,
-            "",
-            "mp5 one p p|mp5 one p q|mp5 one p gen|mp5 one p Gen:1:1|mp5 one p xgen:1|mp5 one p |mp5 one p c-",
-        ),
     ] {
         for line in lines.split('|') {
             let mut store = counting(alloc, &[])?;
             let (taken, err) = (sink(alloc, 99, &[])?, sink(alloc, 99, &[])?);
             let ended = call(alloc, line, &mut store, taken, err)?;
             assert_ended(&rt, &ended, code, out, line);
+        }
+    }
+    // The program as a capture begins with `stru`; a capture that isn't listed is empty.
+    for (refusal, lines) in [
+        ("4 73747275", "mp5 one p p"),
+        (
+            "2 0",
+            "mp5 one p q|mp5 one p gen|mp5 one p Gen:1:1|mp5 one p xgen:1|mp5 one p |mp5 one p c-",
+        ),
+    ] {
+        for line in lines.split('|') {
+            let mut store = counting(alloc, &[])?;
+            let (taken, err) = (sink(alloc, 99, &[])?, sink(alloc, 99, &[])?);
+            let ended = call(alloc, line, &mut store, taken, err)?;
+            assert_refused(&rt, alloc, &ended, refusal, line)?;
         }
     }
     Ok(())
@@ -111,6 +121,9 @@ fn writes_that_fail(rt: HostRuntime) -> Result<(), Fail> {
         ("mp5", [2], 2, "", "mp5:"),
         ("mp5 one q c", [1], 3, "", ""),
         ("mp5 one p q", [3], 4, "", "mp5: cap"),
+        ("mp5 one p q", [5], 4, "", "mp5: capture 2 "),
+        ("mp5 one p q", [6], 4, "", "mp5: capture 2 0"),
+        ("mp5 one p q", [7], 4, "", "mp5: capture 2 0\n"),
         ("mp5 one p c", [1], 0, COUNTED, ""),
     ] {
         let mut store = counting(alloc, &[])?;
@@ -134,7 +147,7 @@ fn other_stores_and_sinks(rt: HostRuntime) -> Result<(), Fail> {
     assert_ended(&rt, &ended, 0, COUNTED, "one byte at a time");
     let (out, err) = (sink(alloc, 1, &[])?, sink(alloc, 1, &[])?);
     let ended = call(alloc, "mp5 one p p", &mut store, out, err)?;
-    assert_ended(&rt, &ended, 4, "", "one byte at a time");
+    assert_refused(&rt, alloc, &ended, "4 73747275", "one byte at a time")?;
     for (line, code) in [
         ("mp5 one gen:p c", 0),
         ("mp5 one p c", 3),

@@ -1,6 +1,7 @@
 //! Texts and captures at the edges of what is read.
 use crate::fixture::{
-    COUNT, FILE_HEADER, FRAME, assert_ended, capture_of, push_record, run, text_of, wide_program,
+    COUNT, FILE_HEADER, FRAME, assert_ended, assert_refused, capture_of, push_record, run, text_of,
+    wide_program,
 };
 use std::alloc::{AllocError, Global};
 use std::process::Abort;
@@ -9,8 +10,6 @@ use std::test::Fail;
 const DONE: u8 = 0;
 
 const PROGRAM: u8 = 3;
-
-const CAPTURE: u8 = 4;
 
 // A text as a program on a capture of no packets ends with this code.
 fn assert_text(
@@ -75,13 +74,14 @@ fn texts(rt: HostRuntime) -> Result<(), Fail> {
             FIELD,
             DONE,
             "|int n;|int n; int N;|int c; int f; int p; int P; int hash2;|int sport; int dport;
-            |int leng; int le; int Len; int arrivals;",
+            |int leng; int le; int Len; int arrivals;|int saddr;|int daddr;|int proto;|int ttl;|int tos;|int len;
+            |int n; int arrival; int m;",
         ),
         (
             FIELD,
             PROGRAM,
             "int n; int n;|int n; int m; int n;|int n|int n;;|n;|int n = 0;|int n, m;|int n[2];|int if;|intn;
-            |int saddr;|int daddr;|int proto;|int ttl;|int tos;|int len;|int n; int arrival; int m;",
+            |int saddr; int saddr;|int arrival; int n; int arrival;",
         ),
         (
             STATEMENT,
@@ -237,24 +237,25 @@ fn broken_texts(rt: HostRuntime) -> Result<(), Fail> {
 
 const NAMELESS: &str = "struct P { }; void f(struct P p) { }";
 
-// Bytes as a capture are read as so many packets, or refused.
+// Bytes as a capture are read as so many packets, or refused with this number and these values.
 fn assert_capture(
     rt: &impl Abort,
     alloc: Global,
     bytes: &[u8],
-    packets: Option<u8>,
+    want: Result<u8, &str>,
     at: &str,
 ) -> Result<(), AllocError> {
-    let mut want = String::new(alloc);
-    if let Some(packets) = packets {
-        for i in 0..packets {
-            write!(want, "pkt {i}\n")?;
-        }
-        write!(want, "done {packets}\n")?;
-    }
-    let code = if packets.is_some() { DONE } else { CAPTURE };
     let ended = run(alloc, NAMELESS.as_bytes(), bytes)?;
-    assert_ended(rt, &ended, code, &want, at);
+    let packets = match want {
+        Ok(packets) => packets,
+        Err(refusal) => return assert_refused(rt, alloc, &ended, refusal, at),
+    };
+    let mut out = String::new(alloc);
+    for i in 0..packets {
+        write!(out, "pkt {i}\n")?;
+    }
+    write!(out, "done {packets}\n")?;
+    assert_ended(rt, &ended, DONE, &out, at);
     Ok(())
 }
 
@@ -262,62 +263,60 @@ fn assert_capture(
 #[test]
 fn edited_captures(rt: HostRuntime) -> Result<(), Fail> {
     let alloc = rt.alloc();
-    let rows: [(usize, &[u8], Option<u8>); 37] = [
-        // The other three beginnings of a capture, a newer format's, and that of a compressed file.
-        (0, &[0xa1, 0xb2, 0xc3, 0xd4], None),
-        (0, &[0x4d, 0x3c, 0xb2, 0xa1], None),
-        (0, &[0xa1, 0xb2, 0x3c, 0x4d], None),
-        (0, &[0x0a, 0x0d, 0x0d, 0x0a], None),
-        (0, &[0x1f, 0x8b, 0x08, 0x00], None),
-        (0, &[0xd5], None),
-        (1, &[0xc2], None),
-        (2, &[0xb3], None),
-        (3, &[0xa0], None),
-        // Versions 3.4, 1.4, 2.3, 2.5, 258.4, 2.260 and 4.2.
-        (4, &[3], None),
-        (4, &[1], None),
-        (6, &[3], None),
-        (6, &[5], None),
-        (5, &[1], None),
-        (7, &[1], None),
-        (4, &[4, 0, 2, 0], None),
+    let rows: [(usize, &[u8], Result<u8, &str>); 39] = [
+        // The other three beginnings of a capture, a block capture's, and that of a compressed file. Most
+        // significant byte first the versions 2 and 4 are written in other bytes.
+        (0, &[0xa1, 0xb2, 0xc3, 0xd4], Err("5 512 1024")),
+        (0, &[0x4d, 0x3c, 0xb2, 0xa1], Ok(1)),
+        (0, &[0xa1, 0xb2, 0x3c, 0x4d], Err("5 512 1024")),
+        (0, &[0x0a, 0x0d, 0x0d, 0x0a], Err("3")),
+        (0, &[0x1f, 0x8b, 0x08, 0x00], Err("4 1f8b0800")),
+        (0, &[0xd5], Err("4 d5c3b2a1")),
+        (1, &[0xc2], Err("4 d4c2b2a1")),
+        (2, &[0xb3], Err("4 d4c3b3a1")),
+        (3, &[0xa0], Err("4 d4c3b2a0")),
+        (4, &[3], Err("5 3 4")),
+        (4, &[1], Err("5 1 4")),
+        (6, &[3], Err("5 2 3")),
+        (6, &[5], Err("5 2 5")),
+        (5, &[1], Err("5 258 4")),
+        (7, &[1], Err("5 2 260")),
+        (4, &[4, 0, 2, 0], Err("5 4 2")),
         // The zone, the figures and the longest capture.
-        (8, &[0xff, 0xff, 0xff, 0xff], Some(1)),
-        (12, &[0xff, 0xff, 0xff, 0xff], Some(1)),
-        (16, &[0, 0, 0, 0], Some(1)),
-        (8, &[1, 2, 3, 4, 5, 6, 7, 8, 9, 10, 11, 12], Some(1)),
+        (8, &[0xff, 0xff, 0xff, 0xff], Ok(1)),
+        (12, &[0xff, 0xff, 0xff, 0xff], Ok(1)),
+        (16, &[0, 0, 0, 0], Ok(1)),
+        (8, &[1, 2, 3, 4, 5, 6, 7, 8, 9, 10, 11, 12], Ok(1)),
         // The link, whose low 16 bits are 1.
-        (20, &[0], None),
-        (20, &[2], None),
-        (20, &[101], None),
-        (20, &[113], None),
-        (21, &[1], None),
-        (22, &[1], Some(1)),
-        (23, &[4], Some(1)),
-        (20, &[1, 0, 0xff, 0xff], Some(1)),
+        (20, &[0], Err("6 0")),
+        (20, &[2], Err("6 2")),
+        (20, &[101], Err("6 101")),
+        (20, &[113], Err("6 113")),
+        (21, &[1], Err("6 257")),
+        (20, &[2, 0, 1, 0], Err("6 65538")),
+        (22, &[1], Ok(1)),
+        (23, &[4], Ok(1)),
+        (20, &[1, 0, 0xff, 0xff], Ok(1)),
         // The moment, and an original length that is less than the captured one, or more.
-        (
-            24,
-            &[0xff, 0xff, 0xff, 0xff, 0xff, 0xff, 0xff, 0xff],
-            Some(1),
-        ),
-        (36, &[41], Some(1)),
-        (36, &[0, 0, 0, 0], Some(1)),
-        (36, &[0xff, 0xff, 0xff, 0xff], Some(1)),
+        (24, &[0xff, 0xff, 0xff, 0xff, 0xff, 0xff, 0xff, 0xff], Ok(1)),
+        (36, &[41], Ok(1)),
+        (36, &[0, 0, 0, 0], Ok(1)),
+        (36, &[0xff, 0xff, 0xff, 0xff], Ok(1)),
         // The captured length. With 26, the 16 bytes left are the header of a longer record.
-        (32, &[41], None),
-        (32, &[43], None),
-        (32, &[26], None),
-        (34, &[1], None),
-        (35, &[0x80], None),
+        (32, &[41], Err("8 81")),
+        (32, &[43], Err("8 24")),
+        (32, &[26], Err("7 66 335546880")),
+        (34, &[1], Err("8 24")),
+        (34, &[4], Err("7 24 262186")),
+        (35, &[0x80], Err("7 24 2147483690")),
     ];
-    for (place, bytes, packets) in rows {
+    for (place, bytes, want) in rows {
         let mut capture = capture_of(alloc, &FRAME)?;
         for (old, new) in capture.iter_mut().skip(place).zip(bytes) {
             *old = *new;
         }
         let at = format!(in alloc; "{bytes:?} at {place}")?;
-        assert_capture(&rt, alloc, &capture, packets, &at)?;
+        assert_capture(&rt, alloc, &capture, want, &at)?;
     }
     Ok(())
 }
@@ -338,26 +337,30 @@ fn cut_and_long_captures(rt: HostRuntime) -> Result<(), Fail> {
     // The header of a record of no bytes may be sixteen zeros.
     capture.extend_from_slice(&[0; 32])?;
     for end in 0..115usize {
-        let packets = match end {
-            24 => Some(0),
-            82 => Some(1),
-            98 => Some(2),
-            114 => Some(3),
-            _ => None,
+        let short = format!(in alloc; "2 {end}")?;
+        let want = match end {
+            0..24 => Err(short.as_str()),
+            24 => Ok(0),
+            25..82 => Err("8 24"),
+            82 => Ok(1),
+            83..98 => Err("8 82"),
+            98 => Ok(2),
+            99..114 => Err("8 98"),
+            _ => Ok(3),
         };
         let bytes = capture.get(..end).unwrap_or(&[]);
         let at = format!(in alloc; "cut to {end}")?;
-        assert_capture(&rt, alloc, bytes, packets, &at)?;
+        assert_capture(&rt, alloc, bytes, want, &at)?;
     }
-    for (length, packets) in [(262144usize, Some(2)), (262145, None)] {
+    for (length, want) in [(262144usize, Ok(2)), (262145, Err("7 24 262145"))] {
         let mut capture = capture_of(alloc, &vec![in alloc; 0u8; length]?)?;
         push_record(&mut capture, &FRAME)?;
-        assert_capture(&rt, alloc, &capture, packets, "a long record")?;
+        assert_capture(&rt, alloc, &capture, want, "a long record")?;
     }
     let most = run(alloc, NAMELESS.as_bytes(), &empty_records(alloc, 262144)?)?;
     assert_eq!(rt; most.status.code(), DONE);
     assert!(rt; text_of(&most.out).ends_with("\npkt 262143\ndone 262144\n"));
     let more = empty_records(alloc, 262145)?;
-    assert_capture(&rt, alloc, &more, None, "too many records")?;
+    assert_capture(&rt, alloc, &more, Err("9 262145"), "too many records")?;
     Ok(())
 }

@@ -190,3 +190,101 @@ fn reads_frames(rt: HostRuntime) -> Result<(), Fail> {
     }
     Ok(())
 }
+
+// The frame with type of service 184, time to live 255, TCP, and the source 192.168.0.1.
+fn tcp_frame() -> [u8; 42] {
+    let mut frame = FRAME;
+    frame[15] = 184;
+    frame[22] = 255;
+    frame[23] = 6;
+    frame[26] = 192;
+    frame[27] = 168;
+    frame
+}
+
+// A number in four bytes, in a file's order.
+fn word_in(is_big: bool, number: u32) -> [u8; 4] {
+    if is_big {
+        number.to_be_bytes()
+    } else {
+        number.to_le_bytes()
+    }
+}
+
+// A capture that begins with this magic, with its numbers in this order, of a record for each second,
+// fraction and original length.
+fn capture_in(
+    alloc: Global,
+    is_big: bool,
+    magic: u32,
+    records: &[(u32, u32, u32)],
+) -> Result<Vec<u8>, AllocError> {
+    let version = if is_big { [0, 2, 0, 4] } else { [2, 0, 4, 0] };
+    let frame = tcp_frame();
+    let mut capture = Vec::from_slice(alloc, &word_in(is_big, magic))?;
+    capture.extend_from_slice(&version)?;
+    capture.extend_from_slice(&[0; 12])?;
+    capture.extend_from_slice(&word_in(is_big, 1))?;
+    for (seconds, fraction, original) in records {
+        capture.extend_from_slice(&word_in(is_big, *seconds))?;
+        capture.extend_from_slice(&word_in(is_big, *fraction))?;
+        capture.extend_from_slice(&word_in(is_big, 42))?;
+        capture.extend_from_slice(&word_in(is_big, *original))?;
+        capture.extend_from_slice(&frame)?;
+    }
+    Ok(capture)
+}
+
+const HEADER: &str =
+    "struct P { int arrival; int len; int tos; int ttl; int proto; int saddr; int daddr; int n; };
+    void f(struct P p) { p.n = p.arrival - p.len; }";
+
+// The second record comes 1 microsecond after the first, and the third 1,999,999 before the first. The source
+// is 3232235521, and 4294967295 is -1.
+const HEADERS: &str =
+    "pkt 0 arrival=0 len=42 tos=184 ttl=255 proto=6 saddr=-1062731775 daddr=167772162 n=-42
+pkt 1 arrival=1 len=60 tos=184 ttl=255 proto=6 saddr=-1062731775 daddr=167772162 n=-59
+pkt 2 arrival=2145483649 len=-1 tos=184 ttl=255 proto=6 saddr=-1062731775 daddr=167772162 n=2145483650
+done 3
+";
+
+// The four magics, with fractions in microseconds or nanoseconds.
+#[test]
+fn header_fields(rt: HostRuntime) -> Result<(), Fail> {
+    let alloc = rt.alloc();
+    let micro = [(5, 999_999, 42), (6, 0, 60), (4, 0, 0xffff_ffff)];
+    let nano = [(5, 999_999_999, 42), (6, 999, 60), (4, 1, 0xffff_ffff)];
+    for is_big in [false, true] {
+        for (magic, records) in [(0xa1b2_c3d4, &micro), (0xa1b2_3c4d, &nano)] {
+            let capture = capture_in(alloc, is_big, magic, records)?;
+            let ended = run(alloc, HEADER.as_bytes(), &capture)?;
+            let at = format!(in alloc; "{magic} {is_big}")?;
+            assert_ended(&rt, &ended, 0, HEADERS, &at);
+        }
+    }
+    // Each field is whole from so many bytes of the frame on.
+    let program =
+        "struct P { int tos; int ttl; int proto; int saddr; int daddr; }; void f(struct P p) { }";
+    let frame = tcp_frame();
+    for end in 0..43usize {
+        let ended = run(
+            alloc,
+            program.as_bytes(),
+            &capture_of(alloc, frame.get(..end).unwrap_or(&frame))?,
+        )?;
+        let mut want = String::from_str(alloc, "pkt 0")?;
+        for (name, from, value) in [
+            ("tos", 16usize, 184i32),
+            ("ttl", 23, 255),
+            ("proto", 24, 6),
+            ("saddr", 30, -1_062_731_775),
+            ("daddr", 34, 167_772_162),
+        ] {
+            let value = if end < from { 0 } else { value };
+            write!(want, " {name}={value}")?;
+        }
+        want.push_str("\ndone 1\n")?;
+        assert_ended(&rt, &ended, 0, &want, "a frame that is cut");
+    }
+    Ok(())
+}

@@ -1,12 +1,13 @@
 -- The causes of an answer, from those of each step.
-use Rattle.std.proofs.Common.{◌≡◌, ◌≢◌, ◌≤◌, ◌+◌, ◌-◌, ◌^◌, ◌⊎◌, inl, inr, ℕ, Bool, true, false, List, Option, None, Some, refl, sym, subst, arith, min}
+use Rattle.std.proofs.Common.{◌≡◌, ◌≢◌, ◌≤◌, ◌+◌, ◌-◌, ◌^◌, ◌⊎◌, inl, inr, ℕ, Bool, true, false, List, take, Option, None, Some, refl, sym, ap, subst, arith, min}
 use Rattle.std.specs.Prelude.{IfSome}
 use Rattle.std.specs.Str.{bytes_eq}
 use Rattle.std.specs.Bool.{Decides}
 use Rattle.std.proofs.lemmas.Slice.Eq.{bytes_eq-Decides}
-use Rattle.capture_io.specs.declared.fault.CaptureFault.TheVariants as capture
+use Rattle.capture_io.specs.declared.fault.CaptureFault.{CaptureFault}
 use Rattle.capture_io.specs.ClassicCapture.{Record, IsCapture}
 use Rattle.capture_io.specs.Header.{headers}
+use Rattle.capture_io.proofs.WholeCapture.{one_answer, one_refusal}
 use Rattle.domino_tree.specs.declared.program.Program.{Program}
 use Rattle.switch_runner.specs.declared.status.ProgramFault.TheVariants as program
 use Rattle.switch_runner.specs.declared.status.Status.{Status}
@@ -16,7 +17,7 @@ use Rattle.switch_runner.specs.Outside.{Rose, TookFront, gained}
 use Rattle.switch_runner.specs.Report.{report}
 use Rattle.switch_runner.specs.ThinProgram.{IsAccepted}
 use Rattle.switch_runner.specs.Top.{NoSource, NoHeaders, Ends}
-use Rattle.switch_runner.proofs.TopLemmas.{if_told}
+use Rattle.switch_runner.proofs.TopLemmas.{if_told, capture_read}
 
 -- no program was read
 pub because_source : (s : Status) (seen : Seen) → NoSource seen.text seen.program_before seen.program_after s → seen.new ≡ seen.old → Because s seen
@@ -34,8 +35,7 @@ pub because_headers : (s : Status) (seen : Seen) → IfSome seen.text IsProgram 
 because_headers status.Done seen p h e = absurd h
 because_headers status.Words seen p h e = absurd h
 because_headers (status.Program f) seen p h e = absurd h
-because_headers (status.Capture capture.NotYet) seen p h e = (p, h, e)
-because_headers (status.Capture capture.NoMemory) seen p h e = absurd h
+because_headers (status.Capture f) seen p h e = (h.0, p, h.1, e)
 because_headers status.ReadFault seen p h e = (inr (p, h), e)
 because_headers status.WriteFault seen p h e = absurd h
 because_headers status.NoMemory seen p h e = e
@@ -90,8 +90,7 @@ pub headers_earlier : (s : Status) (bytes : Option (List ℕ)) (first before now
 headers_earlier status.Done bytes first before now e h = h
 headers_earlier status.Words bytes first before now e h = h
 headers_earlier (status.Program f) bytes first before now e h = h
-headers_earlier (status.Capture capture.NotYet) bytes first before now e h = h
-headers_earlier (status.Capture capture.NoMemory) bytes first before now e h = h
+headers_earlier (status.Capture f) bytes first before now e h = h
 headers_earlier status.ReadFault bytes first before now e h = let k : min (before + 1) (2 ^ 64 - 1) ≤ now = h in omega arith
 headers_earlier status.WriteFault bytes first before now e h = h
 headers_earlier status.NoMemory bytes first before now e h = h
@@ -114,18 +113,22 @@ none_falls before after name other stay later = elim (same_or_not other name) [
 told_as : (told : Option (List ℕ)) (bytes : List ℕ) (P : List ℕ → Type 0) → told ≡ Some bytes → IfSome told P → P bytes
 told_as told bytes P e h = let k : IfSome (Some bytes) P = subst (λ (o : Option (List ℕ)). IfSome o P) e h in k
 
--- a told text isn't both a program and none, and neither are told bytes a capture and none
+-- bytes that are told aren't both a capture and refused
+not_both : (bytes : List ℕ) (f : CaptureFault) → IsSomeCapture bytes → IsNoCapture f bytes → ⊥
+not_both bytes f c none = one_answer (take 134217729 bytes) c.0 f (capture_read (take 134217729 bytes) bytes c.0 refl c.1) none
+
+-- a told text isn't both a program and none
 not_program : (seen : Seen) (text : List ℕ) → seen.text ≡ Some text → IsNoProgram text → IfSome seen.text IsProgram → ⊥
 not_program seen text e none h = let p = told_as seen.text text IsProgram e h in none p.0 p.1
 
 is_program : (seen : Seen) (text : List ℕ) → seen.text ≡ Some text → IsProgram text → IfSome seen.text IsNoProgram → ⊥
 is_program seen text e p h = told_as seen.text text IsNoProgram e h p.0 p.1
 
-not_capture : (seen : Seen) (bytes : List ℕ) → seen.bytes ≡ Some bytes → IsNoCapture bytes → IfSome seen.bytes IsSomeCapture → ⊥
-not_capture seen bytes e none h = let c = told_as seen.bytes bytes IsSomeCapture e h in none c.0 c.1
+not_capture : (seen : Seen) (bytes : List ℕ) (f : CaptureFault) → seen.bytes ≡ Some bytes → IsNoCapture f bytes → IfSome seen.bytes IsSomeCapture → ⊥
+not_capture seen bytes f e none h = not_both bytes f (told_as seen.bytes bytes IsSomeCapture e h) none
 
-is_capture : (seen : Seen) (bytes : List ℕ) → seen.bytes ≡ Some bytes → IsSomeCapture bytes → IfSome seen.bytes IsNoCapture → ⊥
-is_capture seen bytes e c h = told_as seen.bytes bytes IsNoCapture e h c.0 c.1
+is_capture : (seen : Seen) (bytes : List ℕ) (f : CaptureFault) → seen.bytes ≡ Some bytes → IsSomeCapture bytes → IfSome seen.bytes (IsNoCapture f) → ⊥
+is_capture seen bytes f e c h = not_both bytes f c (told_as seen.bytes bytes (IsNoCapture f) e h)
 
 -- no read failed, so it is no read fault
 no_read_fault : (seen : Seen) → IsReadThrough seen → (Rose seen.program_before seen.program_after ⊎ (IfSome seen.text IsProgram × Rose seen.capture_before seen.capture_after)) → ⊥
@@ -136,30 +139,27 @@ program_always status.Done seen h text e none through = absurd (not_program seen
 program_always status.Words seen h text e none through = absurd h
 program_always (status.Program program.NotYet) seen h text e none through = inl refl
 program_always (status.Program program.NoMemory) seen h text e none through = absurd h
-program_always (status.Capture capture.NotYet) seen h text e none through = absurd (not_program seen text e none h.0)
-program_always (status.Capture capture.NoMemory) seen h text e none through = absurd h
+program_always (status.Capture f) seen h text e none through = absurd (not_program seen text e none h.1)
 program_always status.ReadFault seen h text e none through = absurd (no_read_fault seen through h.0)
 program_always status.WriteFault seen h text e none through = absurd (not_program seen text e none h.1.program)
 program_always status.NoMemory seen h text e none through = inr refl
 
 pub capture_always : (s : Status) (seen : Seen) → Because s seen → CaptureAlways s seen
-capture_always status.Done seen h text bytes e f p none through = absurd (not_capture seen bytes f none h.capture)
-capture_always status.Words seen h text bytes e f p none through = absurd h
-capture_always (status.Program program.NotYet) seen h text bytes e f p none through = absurd (is_program seen text e p h.0)
-capture_always (status.Program program.NoMemory) seen h text bytes e f p none through = absurd h
-capture_always (status.Capture capture.NotYet) seen h text bytes e f p none through = inl refl
-capture_always (status.Capture capture.NoMemory) seen h text bytes e f p none through = absurd h
-capture_always status.ReadFault seen h text bytes e f p none through = absurd (no_read_fault seen through h.0)
-capture_always status.WriteFault seen h text bytes e f p none through = absurd (not_capture seen bytes f none h.1.capture)
-capture_always status.NoMemory seen h text bytes e f p none through = inr refl
+capture_always status.Done seen h text bytes fault e f p none through = absurd (not_capture seen bytes fault f none h.capture)
+capture_always status.Words seen h text bytes fault e f p none through = absurd h
+capture_always (status.Program program.NotYet) seen h text bytes fault e f p none through = absurd (is_program seen text e p h.0)
+capture_always (status.Program program.NoMemory) seen h text bytes fault e f p none through = absurd h
+capture_always (status.Capture first) seen h text bytes fault e f p none through = inl (ap status.Capture (one_refusal (take 134217729 bytes) first fault (told_as seen.bytes bytes (IsNoCapture first) f h.2) none))
+capture_always status.ReadFault seen h text bytes fault e f p none through = absurd (no_read_fault seen through h.0)
+capture_always status.WriteFault seen h text bytes fault e f p none through = absurd (not_capture seen bytes fault f none h.1.capture)
+capture_always status.NoMemory seen h text bytes fault e f p none through = inr refl
 
 pub complete : (s : Status) (seen : Seen) → Because s seen → IsComplete s seen
 complete status.Done seen h text bytes e f p c through out = inl refl
 complete status.Words seen h text bytes e f p c through out = absurd h
 complete (status.Program program.NotYet) seen h text bytes e f p c through out = absurd (is_program seen text e p h.0)
 complete (status.Program program.NoMemory) seen h text bytes e f p c through out = absurd h
-complete (status.Capture capture.NotYet) seen h text bytes e f p c through out = absurd (is_capture seen bytes f c h.1)
-complete (status.Capture capture.NoMemory) seen h text bytes e f p c through out = absurd h
+complete (status.Capture fault) seen h text bytes e f p c through out = absurd (is_capture seen bytes fault f c h.2)
 complete status.ReadFault seen h text bytes e f p c through out = absurd (no_read_fault seen through h.0)
 complete status.WriteFault seen h text bytes e f p c through out = absurd (out h.0)
 complete status.NoMemory seen h text bytes e f p c through out = inr refl

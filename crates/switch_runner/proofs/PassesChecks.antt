@@ -1,15 +1,15 @@
 -- The checks in the order in which they are made.
-use Rattle.std.proofs.Common.{◌≡◌, Bool, true, false, not, ◌&&◌, nat_le, length, arith}
+use Rattle.std.proofs.Common.{◌≡◌, Bool, true, false, ◌&&◌, nat_le, length, arith}
 use Rattle.std.specs.List.{list_all}
 use Rattle.std.specs.Str.{bytes_eq}
 use Rattle.domino_tree.specs.declared.program.Program.{Program}
 use Rattle.domino_tree.specs.Meaning.{names_of}
 use Rattle.switch_runner.specs.Checks.{are_few, are_declared}
-use Rattle.switch_runner.specs.ThinProgram.{are_distinct, other_names, is_among, later_fields, is_named_stmt, passes_checks}
+use Rattle.switch_runner.specs.ThinProgram.{are_distinct, other_names, is_named_stmt, passes_checks}
 
 -- the order of tests doesn't matter
-reordered : (a b c d e f g : Bool) → (a && (b && (c && (d && (e && (f && g)))))) ≡ ((e && f) && ((a && (b && (c && g))) && d))
-reordered a b c d e f g = grind arith
+reordered : (a b c d e f : Bool) → (a && (b && (c && (d && (e && f))))) ≡ ((e && f) && ((a && (b && c)) && d))
+reordered a b c d e f = grind arith
 
 -- the checks are those of the limits, of the declarations, and of the names that are used
 passes_checks-is : (p : Program) → passes_checks p ≡ (are_few p && (are_declared p && list_all (is_named_stmt p) p.function.body))
@@ -22,7 +22,6 @@ passes_checks-is p =
     (list_all (is_named_stmt p) p.function.body)
     (nat_le (length p.packet.fields) 32)
     (nat_le (length (names_of p).cells) 16)
-    (list_all (λ f. not (is_among later_fields f)) p.packet.fields)
 
 pub many_fail : (p : Program) → are_few p ≡ false → passes_checks p ≡ false
 many_fail p few = rw (passes_checks-is p, few)

@@ -6,7 +6,7 @@ use Rattle.std.proofs.lemmas.List.{take_all, length-take}
 use Rattle.std.proofs.Math.Seq.{take-append_seam, drop-append_seam}
 use Rattle.std.proofs.lemmas.List.{length-set, length-map}
 use Rattle.capture_io.specs.ClassicCapture.{Record, IsCapture}
-use Rattle.capture_io.specs.Header.{field, headers}
+use Rattle.capture_io.specs.Header.{field, header, start_of, headers}
 use Rattle.capture_io.specs.Rows.{rows}
 use Rattle.domino_tree.specs.declared.program.Program.{Program}
 use Rattle.domino_tree.specs.declared.program.Stmt.{Stmt}
@@ -22,9 +22,12 @@ use Rattle.switch_runner.specs.ThinProgram.{IsAccepted, passes_checks}
 use Rattle.switch_runner.specs.Top.{Stands, AreWide}
 use Rattle.switch_runner.proofs.PacketLengths.{one-lengths}
 
+wide_from : (names : List (List ℕ)) (start : ℕ) (records : List Record) → AreWide (length names) (map (header names start) records)
+wide_from names start [] = tt
+wide_from names start (r ∷ rs) = (length-map names (field start r), wide_from names start rs)
+
 pub wide_headers : (names : List (List ℕ)) (records : List Record) → AreWide (length names) (headers names records)
-wide_headers names [] = tt
-wide_headers names (r ∷ rs) = (length-map names (field r), wide_headers names rs)
+wide_headers names records = wide_from names (start_of records) records
 
 wide_same : (width : ℕ) (ps hs : List (List ℤ)) → map length ps ≡ map length hs → AreWide width hs → AreWide width ps
 wide_same width [] hs e w = tt

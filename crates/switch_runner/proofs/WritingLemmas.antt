@@ -4,8 +4,8 @@ use Rattle.std.proofs.lemmas.List.{append-nil, append_cancel_left, take-append-d
 use Rattle.std.specs.List.{flat_map}
 use Rattle.std.specs.Prelude.{OnOk, OnErr}
 use Rattle.std.proofs.Math.Seq.{take-append-add, take-append_seam, take-length, take-nil}
-use Rattle.switch_runner.specs.Outside.{TookFront, gained}
-use Rattle.switch_runner.specs.Writing.{At, Wrote, Broke, Puts}
+use Rattle.switch_runner.specs.Outside.{Rose, TookFront, gained}
+use Rattle.switch_runner.specs.Writing.{At, at, Wrote, Broke, Puts}
 use Rattle.switch_runner.proofs.TransferLemmas.{TookFront-first, TookFront-second}
 
 -- what is gained in two parts is gained at once
@@ -127,11 +127,25 @@ took_flushed text s t new empty w took =
     took_then s.taken t.taken new s.waits t.waits text [] w.whole w.front (subst (λ (l : List ℕ). TookFront t.taken new l) (sym (append-nil t.waits)) took) in
     subst (λ (l : List ℕ). TookFront s.taken new l) (ap (λ l. l ++ (text ++ [])) empty ∙ append-nil text) all
 
--- whether a write came to its end or not, a front was taken
-pub front_of : {T E : Type 0} (r : Result T E) (piece bytes : List ℕ) (old new : Option (List ℕ)) → piece ≡ bytes → OnOk r (new ≡ gained piece old) → OnErr r (TookFront old new piece) → TookFront old new bytes
-front_of (Ok x) piece bytes old new e ok err = took_all bytes old new (ok ∙ ap (λ l. gained l old) e)
-front_of (Err x) piece bytes old new e ok err = subst (λ (l : List ℕ). TookFront old new l) e err
+-- a text was put where nothing waits, before or after
+pub puts_text : {T E : Type 0} (r : Result T E) (text : List ℕ) (old new : Option (List ℕ)) (before now : ℕ)
+    → OnOk r (new ≡ gained text old) → OnErr r (TookFront old new text) → before ≤ now → OnErr r (Rose before now) → Puts text (at [] old before) (at [] new now) r
+puts_text (Ok x) text old new before now ok err later rose = record { whole = gained-nil new ∙ ok; front = took_all text old new ok; later = later }
+puts_text (Err x) text old new before now ok err later rose = record { front = err; later = later; rose = rose }
+
+-- then a front of it was taken, and all of it where no write failed
+pub front_of : {T E : Type 0} (r : Result T E) (text : List ℕ) (old new : Option (List ℕ)) (before now : ℕ) → Puts text (at [] old before) (at [] new now) r → TookFront old new text
+front_of (Ok x) text old new before now h = h.front
+front_of (Err x) text old new before now h = h.front
+
+pub whole_of : {T E : Type 0} (r : Result T E) (text : List ℕ) (old new : Option (List ℕ)) (before now : ℕ) → Puts text (at [] old before) (at [] new now) r → ¬ Rose before now → new ≡ gained text old
+whole_of (Ok x) text old new before now h quiet = sym (gained-nil new) ∙ h.whole
+whole_of (Err x) text old new before now h quiet = absurd (quiet h.rose)
 
 -- of nothing, nothing is taken
 pub took_nothing : (old new : Option (List ℕ)) → TookFront old new [] → new ≡ old
 took_nothing old new (n, first) = first ∙ ap (λ l. gained l old) (take-nil n) ∙ gained-nil old
+
+-- a text that is put is that of every name it has
+pub puts_same : {T E : Type 0} (r : Result T E) (text line : List ℕ) (s t : At) → line ≡ text → Puts text s t r → Puts line s t r
+puts_same r text line s t e h = subst (λ (l : List ℕ). Puts l s t r) (sym e) h

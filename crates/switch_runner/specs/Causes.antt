@@ -1,13 +1,16 @@
 -- The causes of each answer of the top call.
-use Rattle.std.specs.Prelude.{◌≡◌, ◌⊎◌, ℕ, List, [], codes, Option, Some, IfSome}
+use Rattle.std.specs.Prelude.{◌≡◌, ◌≢◌, ◌⊎◌, ℕ, List, [], take, codes, Option, Some, IfSome}
+use Rattle.capture_io.specs.declared.fault.CaptureFault.{CaptureFault}
 use Rattle.capture_io.specs.declared.fault.CaptureFault.TheVariants as capture
 use Rattle.capture_io.specs.ClassicCapture.{Record, IsCapture}
 use Rattle.capture_io.specs.Header.{headers}
+use Rattle.capture_io.specs.Refusal.{Refuses}
 use Rattle.domino_tree.specs.declared.program.Program.{Program}
 use Rattle.switch_runner.specs.declared.status.ProgramFault.TheVariants as program
 use Rattle.switch_runner.specs.declared.status.Status.{Status}
 use Rattle.switch_runner.specs.declared.status.Status.TheVariants as status
 use Rattle.switch_runner.specs.Outside.{Rose, TookFront, gained}
+use Rattle.switch_runner.specs.RefusalLine.{refusal_line}
 use Rattle.switch_runner.specs.Report
 use Rattle.switch_runner.specs.ThinProgram.{IsAccepted}
 
@@ -52,9 +55,10 @@ IsNoProgram text = (p : Program) → ¬ IsAccepted text p
 abbrev pub IsSomeCapture : List ℕ → Type 0
 IsSomeCapture bytes = (records : List Record) × IsCapture bytes records
 
--- the told bytes are no capture
-abbrev pub IsNoCapture : List ℕ → Type 0
-IsNoCapture bytes = (records : List Record) → ¬ IsCapture bytes records
+-- the told bytes are refused as a capture for this, and for nothing before it; they are read to at most one
+-- byte past the limit of 134217728, so that longer ones are too long with 134217729 bytes
+abbrev pub IsNoCapture : CaptureFault → List ℕ → Type 0
+IsNoCapture f bytes = Refuses (take 134217729 bytes) f
 
 -- the told text is accepted as a program, the told bytes are a capture, and where both are told this
 -- holds of the report of the program's sequential run over the capture's headers
@@ -74,8 +78,7 @@ Because status.Done seen = OfReport seen (λ text. seen.new ≡ gained text seen
 Because status.Words seen = ⊥
 Because (status.Program program.NotYet) seen = IfSome seen.text IsNoProgram × IsUnwritten seen
 Because (status.Program program.NoMemory) seen = ⊥
-Because (status.Capture capture.NotYet) seen = IfSome seen.text IsProgram × IfSome seen.bytes IsNoCapture × IsUnwritten seen
-Because (status.Capture capture.NoMemory) seen = ⊥
+Because (status.Capture f) seen = (f ≢ capture.NoMemory) × IfSome seen.text IsProgram × IfSome seen.bytes (IsNoCapture f) × IsUnwritten seen
 Because status.ReadFault seen =
     (Rose seen.program_before seen.program_after ⊎ (IfSome seen.text IsProgram × Rose seen.capture_before seen.capture_after)) × IsUnwritten seen
 Because status.WriteFault seen = Rose seen.out_before seen.out_after × OfReport seen (TookFront seen.old seen.new)
@@ -93,9 +96,9 @@ IsOrNoMemory answer s = (answer ≡ s) ⊎ (answer ≡ status.NoMemory)
 abbrev pub ProgramAlways : Status → Seen → Type 0
 ProgramAlways answer seen = (text : List ℕ) → seen.text ≡ Some text → IsNoProgram text → IsReadThrough seen → IsOrNoMemory answer (status.Program program.NotYet)
 
--- told bytes that are no capture, under a told program, are always answered so
+-- told bytes that are refused as a capture, under a told program, are always answered by their first refusal
 abbrev pub CaptureAlways : Status → Seen → Type 0
-CaptureAlways answer seen = (text bytes : List ℕ) → seen.text ≡ Some text → seen.bytes ≡ Some bytes → IsProgram text → IsNoCapture bytes → IsReadThrough seen → IsOrNoMemory answer (status.Capture capture.NotYet)
+CaptureAlways answer seen = (text bytes : List ℕ) (f : CaptureFault) → seen.text ≡ Some text → seen.bytes ≡ Some bytes → IsProgram text → IsNoCapture f bytes → IsReadThrough seen → IsOrNoMemory answer (status.Capture f)
 
 -- a told program over a told capture, with no fault, is run to its end
 abbrev pub IsComplete : Status → Seen → Type 0
@@ -117,8 +120,7 @@ line status.Done = []
 line status.Words = codes "mp5: words\n"
 line (status.Program program.NotYet) = codes "mp5: program 40\n"
 line (status.Program program.NoMemory) = codes "mp5: no memory\n"
-line (status.Capture capture.NotYet) = codes "mp5: capture 40\n"
-line (status.Capture capture.NoMemory) = codes "mp5: no memory\n"
+line (status.Capture f) = refusal_line f
 line status.ReadFault = codes "mp5: read fault\n"
 line status.WriteFault = codes "mp5: write fault\n"
 line status.NoMemory = codes "mp5: no memory\n"

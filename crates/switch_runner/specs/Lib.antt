@@ -2,6 +2,7 @@ pub use Rattle.domino_tree.specs.Meaning
 pub use Rattle.domino_syntax.specs.ThinText
 pub use Rattle.capture_io.specs.ClassicCapture
 pub use Rattle.capture_io.specs.Header
+pub use Rattle.capture_io.specs.Refusal
 pub mod ThinProgram
 pub mod Outside
 pub mod Faults
@@ -10,6 +11,7 @@ pub mod Checks
 pub mod Writing
 pub mod CommandLine
 pub mod Report
+pub mod RefusalLine
 pub mod Causes
 pub mod Transfer
 pub mod Memory

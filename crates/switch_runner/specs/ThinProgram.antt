@@ -28,10 +28,6 @@ hash_names = codes "hash2" ∷ codes "hash2a" ∷ codes "hash2b" ∷ codes "hash
 abbrev pub other_names : Program → List (List ℕ)
 other_names p = hash_names ++ ((names_of p).cells ++ (p.function.name ∷ p.function.packet ∷ []))
 
--- fields that are read from a packet's header, and that no program may declare yet
-abbrev pub later_fields : List (List ℕ)
-later_fields = codes "saddr" ∷ codes "daddr" ∷ codes "proto" ∷ codes "ttl" ∷ codes "tos" ∷ codes "len" ∷ codes "arrival" ∷ []
-
 -- a bare name is a register, and a field access names the packet and one of its fields
 abbrev pub naming : Program → Expr-F Bool → Bool
 naming p (Expr-F.Number n) = true
@@ -57,8 +53,7 @@ passes_checks p =
     && (bytes_eq p.function.of p.packet.name
     && (list_all (is_named_stmt p) p.function.body
     && (nat_le (length p.packet.fields) 32
-    && (nat_le (length (names_of p).cells) 16
-    && list_all (λ f. not (is_among later_fields f)) p.packet.fields)))))
+    && nat_le (length (names_of p).cells) 16))))
 
 -- the text is accepted as the program
 pub record IsAccepted (text : List ℕ) (program : Program) : Type 0 where

@@ -1,5 +1,6 @@
 -- The steps of the top call, one by one.
-use Rattle.std.specs.Prelude.{◌≡◌, ℕ, ℤ, List, [], ◌∷◌, length, Option, IfSome}
+use Rattle.std.specs.Prelude.{◌≡◌, ◌≢◌, Bool, true, false, ℕ, ℤ, List, [], ◌∷◌, length, Option, IfSome}
+use Rattle.capture_io.specs.declared.fault.CaptureFault.{CaptureFault}
 use Rattle.capture_io.specs.declared.fault.CaptureFault.TheVariants as capture
 use Rattle.domino_tree.specs.declared.program.Program.{Program}
 use Rattle.domino_tree.specs.Meaning.{State, names_of, exec}
@@ -40,8 +41,7 @@ abbrev pub NoHeaders : Option (List ℕ) → ℕ → ℕ → Status → Type 0
 NoHeaders bytes before now status.Done = ⊥
 NoHeaders bytes before now status.Words = ⊥
 NoHeaders bytes before now (status.Program f) = ⊥
-NoHeaders bytes before now (status.Capture capture.NotYet) = IfSome bytes IsNoCapture
-NoHeaders bytes before now (status.Capture capture.NoMemory) = ⊥
+NoHeaders bytes before now (status.Capture f) = (f ≢ capture.NoMemory) × IfSome bytes (IsNoCapture f)
 NoHeaders bytes before now status.ReadFault = Rose before now
 NoHeaders bytes before now status.WriteFault = ⊥
 NoHeaders bytes before now status.NoMemory = Unit {0}
@@ -55,6 +55,11 @@ Ends text old new before now (status.Capture f) = ⊥
 Ends text old new before now status.ReadFault = ⊥
 Ends text old new before now status.WriteFault = Rose before now × TookFront old new text
 Ends text old new before now status.NoMemory = new ≡ old
+
+-- the fault is want of memory
+abbrev pub is_no_memory : CaptureFault → Bool
+is_no_memory capture.NoMemory = true
+is_no_memory f = false
 
 -- the answer to a read that gave nothing
 abbrev pub read_status : StoreFault → Status

@@ -1,14 +1,11 @@
 //! The checks of declarations.
 
-ghost use Rattle.std.specs.Prelude.{◌≡◌, not, IfOk};
-ghost use Rattle.std.specs.List.{list_all};
+ghost use Rattle.std.specs.Prelude.{◌≡◌, IfOk};
 ghost use Rattle.domino_tree.specs.Meaning.{names_of};
 ghost use Rattle.switch_runner.specs.Checks.{are_few, are_declared};
-ghost use Rattle.switch_runner.specs.ThinProgram.{is_among, later_fields, other_names};
+ghost use Rattle.switch_runner.specs.ThinProgram.{other_names};
 
-use crate::names::{
-    are_distinct, are_same, copy_name, is_text, push_item_names, push_names, push_text,
-};
+use crate::names::{are_distinct, are_same, copy_name, push_item_names, push_names, push_text};
 use domino_tree::Program;
 use mp5_words::Name;
 use std::alloc::{AllocError, Global};
@@ -31,31 +28,6 @@ pub(crate) fn are_few(program: &Program, cells: &[Name]) -> bool
     program.packet.fields.len() <= 32 && cells.len() <= 16
 }
 
-/// Whether a field of this name is read from a header, and can't be declared yet.
-fn is_later_field(name: &Name) -> bool
-    ensures { result ≡ is_among later_fields name.now }
-{
-    is_text(name, "saddr")
-        || is_text(name, "daddr")
-        || is_text(name, "proto")
-        || is_text(name, "ttl")
-        || is_text(name, "tos")
-        || is_text(name, "len")
-        || is_text(name, "arrival")
-}
-
-/// Whether none of the fields is one that can't be declared yet.
-fn has_no_later_field(fields: &[Name]) -> bool
-    ensures { result ≡ list_all (λ f. not (is_among later_fields f)) fields.now }
-{
-    for field in fields {
-        if is_later_field(field) {
-            return false;
-        }
-    }
-    true
-}
-
 /// All declared names that are not fields.
 fn other_names(alloc: Global, program: &Program, cells: &[Name]) -> Result<Vec<Name>, AllocError>
     requires { cells.now ≡ (names_of program.now).cells }
@@ -72,8 +44,7 @@ fn other_names(alloc: Global, program: &Program, cells: &[Name]) -> Result<Vec<N
     Ok(names)
 }
 
-/// Whether no name is declared twice, the transaction takes the declared struct, and each field can be
-/// declared.
+/// Whether no name is declared twice, and the transaction takes the declared struct.
 pub(crate) fn are_declared(
     alloc: Global,
     program: &Program,
@@ -87,7 +58,6 @@ pub(crate) fn are_declared(
     Ok(
         are_distinct(fields)
             && are_distinct(&others)
-            && are_same(&program.function.of, &program.packet.name)
-            && has_no_later_field(fields),
+            && are_same(&program.function.of, &program.packet.name),
     )
 }

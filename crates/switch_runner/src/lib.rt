@@ -10,6 +10,7 @@ mod checks;
 mod edge;
 mod evaluate;
 mod fabric;
+mod line;
 mod memory;
 mod names;
 mod numbered;

@@ -17,13 +17,6 @@ pub(crate) fn are_same(a: &Name, b: &Name) -> bool
     a.bytes() == b.bytes()
 }
 
-/// Whether a name has the bytes of a text.
-pub(crate) fn is_text(name: &Name, text: &str) -> bool
-    ensures { result ≡ bytes_eq name.now text.now }
-{
-    name.bytes() == text.as_bytes()
-}
-
 /// Whether a name is among names.
 pub(crate) fn is_among(names: &[Name], name: &Name) -> bool
     ensures { result ≡ is_among names.now name.now }

@@ -69,21 +69,4 @@ impl Status {
             Status::NoMemory => 7,
         }
     }
-
-    /// The line that tells of the status; nothing for Done.
-    pub(crate) fn line(&self) -> &'static [u8]
-        ensures { result.now ≡ causes.line self.now }
-    {
-        match self {
-            Status::Done => b"",
-            Status::Words => b"mp5: words\n",
-            Status::Program(ProgramFault::NotYet) => b"mp5: program 40\n",
-            Status::Capture(CaptureFault::NotYet) => b"mp5: capture 40\n",
-            Status::ReadFault => b"mp5: read fault\n",
-            Status::WriteFault => b"mp5: write fault\n",
-            Status::Program(ProgramFault::NoMemory)
-            | Status::Capture(CaptureFault::NoMemory)
-            | Status::NoMemory => b"mp5: no memory\n",
-        }
-    }
 }

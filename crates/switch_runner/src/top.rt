@@ -4,21 +4,22 @@ ghost use Rattle.std.specs.Option.{option_map};
 ghost use Rattle.capture_io.specs.ClassicCapture.{Record, IsCapture};
 ghost use Rattle.capture_io.specs.Header.{headers};
 ghost use Rattle.domino_tree.specs.declared.program.Program.{Program};
-ghost use Rattle.switch_runner.specs.Causes.{IsNoProgram, IsNoCapture, IsAboutProgram, Because, ProgramAlways, CaptureAlways, IsComplete, saw, line};
+ghost use Rattle.switch_runner.specs.Causes.{IsNoProgram, IsAboutProgram, Because, ProgramAlways, CaptureAlways, IsComplete, saw, line};
 ghost use Rattle.switch_runner.specs.CommandLine as command;
 ghost use Rattle.switch_runner.specs.Outside.{Rose, TookFront, gained};
 ghost use Rattle.switch_runner.specs.Report.{report};
 ghost use Rattle.switch_runner.specs.ThinProgram.{IsAccepted};
-ghost use Rattle.switch_runner.specs.Top.{Stands, AreWide, NoSource, NoHeaders, Ends, read_status};
+ghost use Rattle.switch_runner.specs.Top.{Stands, AreWide, NoSource, NoHeaders, Ends, is_no_memory, read_status};
 
 use crate::block::Block;
 use crate::fabric::Fabric;
+use crate::line::write_line;
 use crate::outside::{Failed, Sink, Store, StoreFault};
 use crate::report::write_report;
 use crate::resolve::{Resolved, resolve};
 use crate::run::run_one;
 use crate::status::{ProgramFault, Status};
-use crate::transfer::{read_whole, write_all};
+use crate::transfer::read_whole;
 use capture_io::{Capture, CaptureFault, read_capture};
 use domino_syntax::{TextFault, read_program};
 use mp5_words::FieldNames;
@@ -196,9 +197,16 @@ fn read_headers<S: Store>(
     };
     match read_capture(alloc, &bytes, fields) {
         Ok(capture) => Ok(capture),
-        Err(CaptureFault::NotYet) => Err(Status::Capture(CaptureFault::NotYet)),
-        Err(CaptureFault::NoMemory) => Err(Status::NoMemory),
+        Err(fault) if is_no_memory(&fault) => Err(Status::NoMemory),
+        Err(fault) => Err(Status::Capture(fault)),
     }
+}
+
+/// Whether a capture isn't read for want of memory alone.
+fn is_no_memory(fault: &CaptureFault) -> bool
+    ensures { result ≡ is_no_memory fault.now }
+{
+    matches!(fault, CaptureFault::NoMemory)
 }
 
 /// The answer to a read that gave nothing.
@@ -249,5 +257,5 @@ fn tell<K: Sink>(err: &mut K, status: &Status)
     ensures front { TookFront (K.taken err.old) (K.taken err.new) (line status.now) }
     ensures whole { ¬ Rose (K.faults err.old) (K.faults err.new) → K.taken err.new ≡ gained (line status.now) (K.taken err.old) }
 {
-    let _ = write_all(err, status.line());
+    let _ = write_line(err, status);
 }

@@ -1,8 +1,9 @@
-use Rattle.std.proofs.Common.{◌≡◌, ◌<◌, ◌∙◌, ◌++◌, ℕ, false, eqb, List, length, sym, ap, arith, map}
+use Rattle.std.proofs.Common.{◌≡◌, ◌<◌, ◌+◌, ◌∙◌, ℕ, false, eqb, List, length, sym, ap, subst, arith, Err}
 use Rattle.std.proofs.lemmas.Bool.{eqb-true, eqb-false}
-use Rattle.capture_io.specs.Fields.{fields, value}
-use Rattle.capture_io.specs.Reading.{records_of, record_at}
-use Rattle.capture_io.proofs.RecordLaws.{record_of, none_of}
+use Rattle.std.proofs.lemmas.Result.{err_from_is_err_and}
+use Rattle.capture_io.specs.declared.fault.CaptureFault.TheVariants.{TooMany}
+use Rattle.capture_io.specs.ClassicCapture.{Record}
+use Rattle.capture_io.specs.Reading.{Fails, records_of}
 use Rattle.capture_io.proofs.Walk.{counted, goes_on, no_record, too_many, is_done}
 use Rattle.capture_io.proofs.reading.words_of.Goals as goal
 
@@ -12,24 +13,45 @@ some_left b e = let ne = eqb-false (length b) 0 e in omega (arith, ne)
 pub returns-then-count-eq-MAX_RECORDS : goal.returns-then-count-eq-MAX_RECORDS
 returns-then-count-eq-MAX_RECORDS c =
     let some = some_left c.loop-rest.rest.now (sym c.is_empty.ensures ∙ c.loop-rest-test.true) in
-    too_many 262144 c.loop-rest.count c.args.sources.now c.loop-rest.words.items c.loop-rest.rest.now (counted c.args.sources.now (records_of 262144 c.args.bytes.now)) c.if-count-eq-MAX_RECORDS.true some c.loop-rest.invariant.so_far
+    let e = c.args.encoding in
+    let sources = c.args.sources.now in
+    let start = c.first_moment-start.result in
+    let all = records_of e 262144 24 c.args.bytes.now in
+    let met : c.loop-rest.count ≡ 262144 = omega arith in
+    sym (ap (λ (s : ℕ). counted sources s all) c.first_moment-start.ensures)
+    ∙ (too_many e 262144 c.loop-rest.count sources start c.loop-rest.words.items c.loop-rest.at c.loop-rest.rest.now (counted sources start all) met some c.loop-rest.invariant.so_far
+    ∙ ap (λ (k : ℕ). Err (TooMany (k + 1))) (sym met))
 
-pub returns-in_default : goal.returns-in_default
-returns-in_default c =
+pub returns-in_err-stamp : goal.returns-in_err-stamp
+returns-in_err-stamp c =
     let some = some_left c.loop-rest.rest.now (sym c.is_empty.ensures ∙ c.loop-rest-test.true) in
-    let none = none_of (record_at c.loop-rest.rest.now) c.in_default.ensures.parts in
-    no_record 262144 c.loop-rest.count c.args.sources.now c.loop-rest.words.items c.loop-rest.rest.now (counted c.args.sources.now (records_of 262144 c.args.bytes.now)) (omega arith) some none c.loop-rest.invariant.so_far
+    let e = c.args.encoding in
+    let sources = c.args.sources.now in
+    let start = c.first_moment-start.result in
+    let all = records_of e 262144 24 c.args.bytes.now in
+    let f = c.in_err-stamp.field-0.0 in
+    let room : c.loop-rest.count < 262144 = omega arith in
+    let p = err_from_is_err_and c.from_residual.result c.from_residual.ensures.1 in
+    rw (p.1, p.2) (subst (λ (s : ℕ). Fails f (counted sources s all)) c.first_moment-start.ensures
+    (no_record e 262144 c.loop-rest.count sources start c.loop-rest.words.items c.loop-rest.at c.loop-rest.rest.now (counted sources start all) f room some c.in_err-stamp.ensures.parts c.loop-rest.invariant.so_far))
 
 pub loop-rest-preserved : goal.loop-rest-preserved
 loop-rest-preserved c =
     let some = some_left c.loop-rest.rest.now (sym c.is_empty.ensures ∙ c.loop-rest-test.true) in
+    let e = c.args.encoding in
+    let sources = c.args.sources.now in
+    let start = c.first_moment-start.result in
     let room : c.loop-rest.count < 262144 = omega arith in
-    let r = record_of (record_at c.loop-rest.rest.now) c.in-Some.frame.now c.in-Some.after.now c.in-Some.ensures.parts in
-    let next = goes_on 262144 c.loop-rest.count c.args.sources.now c.loop-rest.words.items c.loop-rest.rest.now r.0 c.in-Some.after.now (counted c.args.sources.now (records_of 262144 c.args.bytes.now)) room some r.1 c.loop-rest.invariant.so_far in
-    let words : c.push_fields.new.words.items ≡ c.loop-rest.words.items ++ fields c.args.sources.now r.0 = c.in_ok-push_fields.ensures.fields ∙ ap (λ (f : List ℕ). c.loop-rest.words.items ++ map (value f) c.args.sources.now) (sym r.2) in
-    record { limit = omega arith; so_far = rw words next }
+    let r : Record = record { moment = c.in_ok-stamp.stamp.moment; original = c.in_ok-stamp.stamp.original; frame = c.in_ok-stamp.frame.now } in
+    let next = goes_on e 262144 c.loop-rest.count sources start c.loop-rest.words.items c.loop-rest.at c.loop-rest.rest.now r c.in_ok-stamp.after.now (counted sources start (records_of e 262144 24 c.args.bytes.now)) room some c.in_ok-stamp.ensures.parts c.loop-rest.invariant.so_far in
+    record { limit = omega arith; place = omega (arith, c.in_ok-stamp.ensures.sum, c.loop-rest.invariant.place); so_far = rw c.in_ok-push_record.ensures.fields next }
 
 pub returns : goal.returns
 returns c =
     let none : length c.loop-rest.rest.now ≡ 0 = eqb-true _ _ (sym c.is_empty.ensures ∙ c.loop-rest-test.false) in
-    is_done 262144 c.loop-rest.count c.args.sources.now c.loop-rest.words.items c.loop-rest.rest.now (counted c.args.sources.now (records_of 262144 c.args.bytes.now)) none c.loop-rest.invariant.so_far
+    let e = c.args.encoding in
+    let sources = c.args.sources.now in
+    let start = c.first_moment-start.result in
+    let all = records_of e 262144 24 c.args.bytes.now in
+    sym (ap (λ (s : ℕ). counted sources s all) c.first_moment-start.ensures)
+    ∙ is_done e 262144 c.loop-rest.count sources start c.loop-rest.words.items c.loop-rest.at c.loop-rest.rest.now (counted sources start all) none c.loop-rest.invariant.so_far

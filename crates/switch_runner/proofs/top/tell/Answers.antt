@@ -1,5 +1,8 @@
-use Rattle.switch_runner.proofs.WritingLemmas.{front_of}
+use Rattle.switch_runner.proofs.WritingLemmas.{front_of, whole_of}
 use Rattle.switch_runner.proofs.top.tell.Goals as goal
 
 pub returns-clause-front : goal.returns-clause-front
-returns-clause-front g c = front_of c.write_all.result _ _ _ _ c.line.ensures c.write_all.ensures.ok c.write_all.ensures.err
+returns-clause-front g c = front_of c.write_line.result _ _ _ _ _ c.write_line.ensures
+
+pub returns-clause-whole : goal.returns-clause-whole
+returns-clause-whole g c = whole_of c.write_line.result _ _ _ _ _ c.write_line.ensures

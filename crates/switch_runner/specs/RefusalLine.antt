@@ -1,0 +1,33 @@
+-- The line that tells of a refused capture: the refusal's number and the values that it keeps.
+use Rattle.std.specs.Prelude.{ℕ, ◌+◌, ◌^◌, ◌/◌, ◌%◌, nat_lt, if◌then◌else◌, List, [], ◌∷◌, ◌++◌, map, codes, decimal}
+use Rattle.capture_io.specs.declared.fault.CaptureFault.{CaptureFault}
+use Rattle.capture_io.specs.declared.fault.CaptureFault.TheVariants.{TooLong, ShortHeader, PcapNg, BadMagic, Version, LinkType, LongRecord, Truncated, TooMany, NoMemory}
+
+-- a hexadecimal digit, with `a` to `f` in lower case
+abbrev pub hex_digit : ℕ → ℕ
+hex_digit n = if nat_lt n 10 then 48 + n else 87 + n
+
+-- the eight hexadecimal digits of a word, most significant first
+abbrev pub hex_word : ℕ → List ℕ
+hex_word word = map (λ place. hex_digit (word / 16 ^ place % 16)) (7 ∷ 6 ∷ 5 ∷ 4 ∷ 3 ∷ 2 ∷ 1 ∷ 0 ∷ [])
+
+-- a text and a value, as a line
+abbrev pub with_one : List ℕ → ℕ → List ℕ
+with_one text n = text ++ (decimal n ++ (10 ∷ []))
+
+-- a text and two values with a space between them, as a line
+abbrev pub with_two : List ℕ → ℕ → ℕ → List ℕ
+with_two text a b = text ++ (decimal a ++ (32 ∷ (decimal b ++ (10 ∷ []))))
+
+-- the line of a refusal; want of memory has that of its own status
+abbrev pub refusal_line : CaptureFault → List ℕ
+refusal_line (TooLong n) = with_one (codes "mp5: capture 1 ") n
+refusal_line (ShortHeader n) = with_one (codes "mp5: capture 2 ") n
+refusal_line PcapNg = codes "mp5: capture 3\n"
+refusal_line (BadMagic word) = codes "mp5: capture 4 " ++ (hex_word word ++ (10 ∷ []))
+refusal_line (Version major minor) = with_two (codes "mp5: capture 5 ") major minor
+refusal_line (LinkType n) = with_one (codes "mp5: capture 6 ") n
+refusal_line (LongRecord at n) = with_two (codes "mp5: capture 7 ") at n
+refusal_line (Truncated at) = with_one (codes "mp5: capture 8 ") at
+refusal_line (TooMany n) = with_one (codes "mp5: capture 9 ") n
+refusal_line NoMemory = codes "mp5: no memory\n"

@@ -1,0 +1,132 @@
+//! The line on standard error that tells how a call ends.
+ghost use Rattle.std.specs.Prelude.{◌≡◌, ◌<◌, ◌/◌, ◌%◌, [], decimal};
+ghost use Rattle.std.specs.List.{flat_map};
+ghost use Rattle.switch_runner.specs.Causes.{line};
+ghost use Rattle.switch_runner.specs.RefusalLine.{hex_digit, hex_word, with_one, with_two, refusal_line};
+ghost use Rattle.switch_runner.specs.Writing.{Puts, at};
+
+use crate::outside::{Failed, Sink};
+use crate::status::{ProgramFault, Status};
+use crate::transfer::write_all;
+use capture_io::CaptureFault;
+use itoa::Buffer;
+
+// Writes a text.
+fn write_text<K: Sink>(err: &mut K, text: &[u8]) -> Result<(), Failed>
+    ensures { Puts text.now (at [] (K.taken err.old) (K.faults err.old)) (at [] (K.taken err.new) (K.faults err.new)) result }
+{
+    write_all(err, text)
+}
+
+// Writes pieces one after another.
+fn write_pieces<K: Sink>(err: &mut K, pieces: &[&[u8]]) -> Result<(), Failed>
+    ensures { Puts (flat_map (λ piece. piece.now) pieces.now)
+        (at [] (K.taken err.old) (K.faults err.old)) (at [] (K.taken err.new) (K.faults err.new)) result }
+{
+    for piece in pieces {
+        match write_text(err, piece) {
+            Ok(()) => {}
+            Err(failed) => return Err(failed),
+        }
+    }
+    Ok(())
+}
+
+// Writes a line of a text and a value.
+fn write_one<K: Sink>(err: &mut K, text: &[u8], value: u64) -> Result<(), Failed>
+    ensures { Puts (with_one text.now value) (at [] (K.taken err.old) (K.faults err.old)) (at [] (K.taken err.new) (K.faults err.new)) result }
+{
+    let mut digits = Buffer::new();
+    write_pieces(err, &[text, digits.format(value).as_bytes(), b"\n"])
+}
+
+// Writes a line of a text and two values.
+fn write_two<K: Sink>(err: &mut K, text: &[u8], first: u32, second: u32) -> Result<(), Failed>
+    ensures { Puts (with_two text.now first second) (at [] (K.taken err.old) (K.faults err.old)) (at [] (K.taken err.new) (K.faults err.new)) result }
+{
+    let mut before = Buffer::new();
+    let mut after = Buffer::new();
+    write_pieces(
+        err,
+        &[
+            text,
+            before.format(first).as_bytes(),
+            b" ",
+            after.format(second).as_bytes(),
+            b"\n",
+        ],
+    )
+}
+
+// The hexadecimal digit of this weight.
+fn hex_digit(word: u32, weight: u32) -> u8
+    requires { 0 < weight }
+    ensures { result ≡ hex_digit (word / weight % 16) }
+{
+    let digit = (word / weight % 16) as u8;
+    if digit < 10 {
+        b'0' + digit
+    } else {
+        b'a' - 10 + digit
+    }
+}
+
+// The eight hexadecimal digits of a word.
+fn hex_word(word: u32) -> [u8; 8]
+    ensures { result ≡ hex_word word }
+{
+    [
+        hex_digit(word, 0x1000_0000),
+        hex_digit(word, 0x0100_0000),
+        hex_digit(word, 0x0010_0000),
+        hex_digit(word, 0x0001_0000),
+        hex_digit(word, 0x1000),
+        hex_digit(word, 0x0100),
+        hex_digit(word, 0x0010),
+        hex_digit(word, 1),
+    ]
+}
+
+// Writes the line of a refused capture.
+fn write_refusal<K: Sink>(err: &mut K, fault: &CaptureFault) -> Result<(), Failed>
+    ensures { Puts (refusal_line fault.now) (at [] (K.taken err.old) (K.faults err.old)) (at [] (K.taken err.new) (K.faults err.new)) result }
+{
+    match fault {
+        CaptureFault::TooLong(n) => write_one(err, b"mp5: capture 1 ", *n),
+        CaptureFault::ShortHeader(n) => write_one(err, b"mp5: capture 2 ", u64::from(*n)),
+        CaptureFault::PcapNg => write_text(err, b"mp5: capture 3\n"),
+        CaptureFault::BadMagic(word) => {
+            write_pieces(err, &[b"mp5: capture 4 ", &hex_word(*word), b"\n"])
+        }
+        CaptureFault::Version(major, minor) => {
+            write_two(
+                err,
+                b"mp5: capture 5 ",
+                u32::from(*major),
+                u32::from(*minor),
+            )
+        }
+        CaptureFault::LinkType(n) => write_one(err, b"mp5: capture 6 ", u64::from(*n)),
+        CaptureFault::LongRecord(at, n) => write_two(err, b"mp5: capture 7 ", *at, *n),
+        CaptureFault::Truncated(at) => write_one(err, b"mp5: capture 8 ", u64::from(*at)),
+        CaptureFault::TooMany(n) => write_one(err, b"mp5: capture 9 ", u64::from(*n)),
+        CaptureFault::NoMemory => write_text(err, b"mp5: no memory\n"),
+    }
+}
+
+/// Writes the line that tells of a status; nothing for Done. Takes no memory.
+pub(crate) fn write_line<K: Sink>(err: &mut K, status: &Status) -> Result<(), Failed>
+    ensures { Puts (line status.now) (at [] (K.taken err.old) (K.faults err.old)) (at [] (K.taken err.new) (K.faults err.new)) result }
+{
+    match status {
+        Status::Done => write_text(err, b""),
+        Status::Words => write_text(err, b"mp5: words\n"),
+        Status::Program(ProgramFault::NotYet) => write_text(err, b"mp5: program 40\n"),
+        Status::Capture(fault) => write_refusal(err, fault),
+        Status::ReadFault => write_text(err, b"mp5: read fault\n"),
+        Status::WriteFault => write_text(err, b"mp5: write fault\n"),
+        Status::Program(ProgramFault::NoMemory) | Status::NoMemory => {
+            write_text(err, b"mp5: no memory\n")
+        }
+    }
+}
