@@ -80,6 +80,24 @@ fn words(rt: HostRuntime) -> Result<(), Fail> {
     Ok(())
 }
 
+// Neither other modes nor their options are there yet.
+#[test]
+fn modes_to_come(rt: HostRuntime) -> Result<(), Fail> {
+    let alloc = rt.alloc();
+    for line in [
+        "mp5 run p",
+        "mp5 fly p c",
+        "mp5 run p c --pipelines 9",
+        "mp5 run p gen:300000:1",
+    ] {
+        let mut store = counting(alloc, &[1])?;
+        let (out, err) = (sink(alloc, 99, &[])?, sink(alloc, 99, &[])?);
+        let ended = call(alloc, line, &mut store, out, err)?;
+        assert_ended(&rt, &ended, 2, "", line);
+    }
+    Ok(())
+}
+
 // Each read fails in turn. Both files are read, so at least the first two reads are reached.
 #[test]
 fn reads_that_fail(rt: HostRuntime) -> Result<(), Fail> {

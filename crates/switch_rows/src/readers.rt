@@ -321,6 +321,58 @@ fn edited_captures(rt: HostRuntime) -> Result<(), Fail> {
     Ok(())
 }
 
+// Numbers most significant byte first: a file header, and the header of a record of 42 bytes of 42.
+const BIG_HEADERS: [u8; 40] = [
+    0xa1, 0xb2, 0xc3, 0xd4, 0, 2, 0, 4, 0, 0, 0, 0, 0, 0, 0, 0, 0, 4, 0, 0, 0, 0, 0, 1, // file
+    0, 0, 0, 1, 0, 0, 0, 0, 0, 0, 0, 42, 0, 0, 0, 42, // record
+];
+
+// Edits of a capture that is written most significant byte first. The version is judged before the
+// link, and the link before the records.
+#[test]
+fn edited_big_captures(rt: HostRuntime) -> Result<(), Fail> {
+    let alloc = rt.alloc();
+    let rows: [(usize, &[u8], Result<u8, &str>); 19] = [
+        (0, &[0xa1], Ok(1)),
+        (2, &[0x3c, 0x4d], Ok(1)),
+        (0, &[0xd4, 0xc3, 0xb2, 0xa1], Err("5 512 1024")),
+        (3, &[0xd5], Err("4 a1b2c3d5")),
+        (4, &[2], Err("5 514 4")),
+        (5, &[3], Err("5 3 4")),
+        (6, &[4, 0], Err("5 2 1024")),
+        (7, &[5], Err("5 2 5")),
+        (20, &[1, 0, 0, 0], Err("6 16777216")),
+        (22, &[1], Err("6 257")),
+        (23, &[113], Err("6 113")),
+        (20, &[4, 0], Ok(1)),
+        (
+            7,
+            &[3, 0, 0, 0, 0, 0, 0, 0, 0, 0, 0, 0, 0, 0, 0, 0, 2],
+            Err("5 2 3"),
+        ),
+        (
+            23,
+            &[2, 0, 0, 0, 0, 0, 0, 0, 0, 255, 255, 255, 255],
+            Err("6 2"),
+        ),
+        (32, &[0, 4, 0, 0], Err("8 24")),
+        (32, &[0, 4, 0, 1], Err("7 24 262145")),
+        (32, &[42, 0, 0, 0], Err("7 24 704643072")),
+        (35, &[41], Err("8 81")),
+        (35, &[43], Err("8 24")),
+    ];
+    for (place, bytes, want) in rows {
+        let mut capture = Vec::from_slice(alloc, &BIG_HEADERS)?;
+        capture.extend_from_slice(&FRAME)?;
+        for (old, new) in capture.iter_mut().skip(place).zip(bytes) {
+            *old = *new;
+        }
+        let at = format!(in alloc; "{bytes:?} at {place}")?;
+        assert_capture(&rt, alloc, &capture, want, &at)?;
+    }
+    Ok(())
+}
+
 // A capture of so many records of no bytes.
 fn empty_records(alloc: Global, count: u32) -> Result<Vec<u8>, AllocError> {
     let mut capture = Vec::from_slice(alloc, &FILE_HEADER)?;

@@ -1,6 +1,7 @@
 //! Programs on captures, with the reports that they give.
 use crate::fixture::{
-    COUNT, COUNTED, Ended, FRAME, assert_ended, capture_of, packets, run, wide_program,
+    COUNT, COUNTED, Ended, FILE_HEADER, FRAME, assert_ended, capture_of, packets, push_record, run,
+    wide_program,
 };
 use std::alloc::{AllocError, Global};
 use std::test::Fail;
@@ -188,6 +189,45 @@ fn reads_frames(rt: HostRuntime) -> Result<(), Fail> {
         let want = format!(in alloc; "pkt 0 dport={dport} sport={sport}\ndone 1\n")?;
         assert_ended(&rt, &ended, 0, &want, "a frame that is cut");
     }
+    Ok(())
+}
+
+// An IPv6 frame of UDP from port 10 to port 20.
+const IPV6: [u8; 62] = [
+    2, 0, 0, 0, 0, 2, 2, 0, 0, 0, 0, 1, 0x86, 0xdd, // Ethernet
+    0x60, 1, 2, 3, 0, 8, 17, 64, // IPv6
+    0xfd, 1, 2, 3, 4, 5, 6, 7, 8, 9, 10, 11, 12, 13, 14, 15, // source
+    0xfd, 21, 22, 23, 24, 25, 26, 27, 28, 29, 30, 31, 32, 33, 34, 35, // destination
+    0, 10, 0, 20, 0, 8, 0, 0, // UDP
+];
+
+// A frame of IPv6 shows nothing but its record. The ports are those of TCP and UDP alone: not those of ICMP, of
+// GRE (47), of any protocol beside TCP and UDP, and of UDP-Lite (136).
+#[test]
+fn other_protocols(rt: HostRuntime) -> Result<(), Fail> {
+    let alloc = rt.alloc();
+    let program =
+        "struct P { int sport; int dport; int saddr; int daddr; int proto; int ttl; int tos; int len; int arrival; };
+        void f(struct P p) { }";
+    let mut capture = Vec::from_slice(alloc, &FILE_HEADER)?;
+    push_record(&mut capture, &IPV6)?;
+    let mut want = String::from_str(
+        alloc,
+        "pkt 0 sport=0 dport=0 saddr=0 daddr=0 proto=0 ttl=0 tos=0 len=62 arrival=0\n",
+    )?;
+    for (i, protocol) in [0u8, 1, 5, 7, 16, 18, 47, 136, 255].iter().enumerate() {
+        let mut frame = FRAME;
+        frame[23] = *protocol;
+        push_record(&mut capture, &frame)?;
+        let t = i + 1;
+        write!(
+            want,
+            "pkt {t} sport=0 dport=0 saddr=167772161 daddr=167772162 proto={protocol} ttl=64 tos=0 len=42 arrival=0\n"
+        )?;
+    }
+    want.push_str("done 10\n")?;
+    let ended = run(alloc, program.as_bytes(), &capture)?;
+    assert_ended(&rt, &ended, 0, &want, "other protocols");
     Ok(())
 }
 
