@@ -36,8 +36,7 @@ one_fault words = one_built (built ours) nothing_held (argument_words ours words
 -- an error of another kind than help refuses the words
 refused_by : (words : List Text) (k : ErrorKind) → k ≢ kind.DisplayHelp → IsAmong k (faults words) → IsRefused words
 refused_by words k other among =
-    let only : faults words ≡ k ∷ [] = all_of_one (faults words) k (one_fault words) among in
-    (
+    let only : faults words ≡ k ∷ [] = all_of_one (faults words) k (one_fault words) among in (
       ap (λ (kinds : Kinds). files_without kinds (arguments words)) only,
       λ help. (let same : ◌≡◌ {A = Kinds} (k ∷ []) (kind.DisplayHelp ∷ []) = sym only ∙ help in other (let e : k ≡ kind.DisplayHelp = cc in e)),
     )

@@ -150,15 +150,36 @@ mod tests {
     fn words_that_are_not_taken(rt: HostRuntime) -> Result<(), Fail> {
         let alloc = rt.alloc();
         for (code, lines) in [
-            (1, "mp5 --help|mp5 -h|mp5 one --help|mp5 one p -h|mp5 one p c --help|mp5 --help p c"),
+            (
+                1,
+                "mp5 --help|mp5 -h|mp5 one --help|mp5 one p -h|mp5 one p c --help|mp5 --help p c",
+            ),
             // Help is answered before what is wrong later, and before the mode and the capture are judged.
-            (1, "mp5 --help --brief|mp5 -hx|mp5 --help --help|mp5 two p c -h|mp5 one p gen:1:1 --help"),
+            (
+                1,
+                "mp5 --help --brief|mp5 -hx|mp5 --help --help|mp5 two p c -h|mp5 one p gen:1:1 --help",
+            ),
             // What is wrong before it is answered first.
-            (2, "mp5 --brief --help|mp5 -xh|mp5 one p c d --help|mp5 --help=x|mp5 --hel|mp5 --Help|mp5 ---help"),
-            (2, "|mp5|mp5 one|mp5 one p|mp5 one p c d|mp5 one p c |mp5 help|mp5 -- --help"),
-            (2, "mp5 two p c|mp5 One p c|mp5 on p c|mp5 ones p c|mp5  p c|mp5 p one c"),
-            (2, "mp5 one -p c|mp5 one p -c|mp5 one p -1|mp5 one p c --brief|mp5 one p --brief c|mp5 --brief --brief"),
-            (2, "mp5 --version|mp5 -V|mp5 one p c --version|mp5 one p c -V"),
+            (
+                2,
+                "mp5 --brief --help|mp5 -xh|mp5 one p c d --help|mp5 --help=x|mp5 --hel|mp5 --Help|mp5 ---help",
+            ),
+            (
+                2,
+                "|mp5|mp5 one|mp5 one p|mp5 one p c d|mp5 one p c |mp5 help|mp5 -- --help",
+            ),
+            (
+                2,
+                "mp5 two p c|mp5 One p c|mp5 on p c|mp5 ones p c|mp5  p c|mp5 p one c",
+            ),
+            (
+                2,
+                "mp5 one -p c|mp5 one p -c|mp5 one p -1|mp5 one p c --brief|mp5 one p --brief c|mp5 --brief --brief",
+            ),
+            (
+                2,
+                "mp5 --version|mp5 -V|mp5 one p c --version|mp5 one p c -V",
+            ),
             (2, "mp5 one p gen:1:1|mp5 one p gen:|mp5 one -- p gen:x"),
         ] {
             for line in lines.split('|') {
