@@ -20,7 +20,7 @@ help_lines =
     ∷ codes "\n"
     ∷ codes "Options:\n"
     ∷ codes "  -h, --help  prints this text on standard error\n"
-    ∷ codes "  --          ends the options: what follows is a file, also if it begins with -\n"
+    ∷ codes "  --          ends the options, so that the name of a file may begin with -\n"
     ∷ codes "\n"
     ∷ codes "The exit status is 0 where the whole report was written, and else\n"
     ∷ codes "  1  help was asked for          5  a file could not be read\n"

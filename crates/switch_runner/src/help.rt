@@ -18,7 +18,7 @@ Arguments:
 
 Options:
   -h, --help  prints this text on standard error
-  --          ends the options: what follows is a file, also if it begins with -
+  --          ends the options, so that the name of a file may begin with -
 
 The exit status is 0 where the whole report was written, and else
   1  help was asked for          5  a file could not be read
