@@ -22,6 +22,7 @@ use Rattle.switch_runner.proofs.TopLemmas.{if_told, capture_read}
 -- no program was read
 pub because_source : (s : Status) (seen : Seen) → NoSource seen.text seen.program_before seen.program_after s → seen.new ≡ seen.old → Because s seen
 because_source status.Done seen h e = absurd h
+because_source status.Help seen h e = absurd h
 because_source status.Words seen h e = absurd h
 because_source (status.Program program.NotYet) seen h e = (h, e)
 because_source (status.Program program.NoMemory) seen h e = absurd h
@@ -33,6 +34,7 @@ because_source status.NoMemory seen h e = e
 -- a program was read, and no capture
 pub because_headers : (s : Status) (seen : Seen) → IfSome seen.text IsProgram → NoHeaders seen.bytes seen.capture_before seen.capture_after s → seen.new ≡ seen.old → Because s seen
 because_headers status.Done seen p h e = absurd h
+because_headers status.Help seen p h e = absurd h
 because_headers status.Words seen p h e = absurd h
 because_headers (status.Program f) seen p h e = absurd h
 because_headers (status.Capture f) seen p h e = (h.0, p, h.1, e)
@@ -59,6 +61,7 @@ of_report seen p records P accepted captured h = record {
 pub because_ran : (s : Status) (seen : Seen) (p : Program) (records : List Record) → IfSome seen.text (λ text. IsAccepted text p) → IfSome seen.bytes (λ bytes. IsCapture bytes records)
     → Ends (report p (headers p.packet.fields records)) seen.old seen.new seen.out_before seen.out_after s → Because s seen
 because_ran status.Done seen p records a c h = of_report seen p records (λ text. seen.new ≡ gained text seen.old) a c h
+because_ran status.Help seen p records a c h = absurd h
 because_ran status.Words seen p records a c h = absurd h
 because_ran (status.Program f) seen p records a c h = absurd h
 because_ran (status.Capture f) seen p records a c h = absurd h
@@ -69,6 +72,7 @@ because_ran status.NoMemory seen p records a c h = h
 -- no answer about the program comes later
 pub not_program_headers : (s : Status) (bytes : Option (List ℕ)) (before now : ℕ) → NoHeaders bytes before now s → IsAboutProgram s → ⊥
 not_program_headers status.Done bytes before now h a = a
+not_program_headers status.Help bytes before now h a = a
 not_program_headers status.Words bytes before now h a = a
 not_program_headers (status.Program f) bytes before now h a = h
 not_program_headers (status.Capture f) bytes before now h a = a
@@ -78,6 +82,7 @@ not_program_headers status.NoMemory bytes before now h a = a
 
 pub not_program_ran : (s : Status) (text : List ℕ) (old new : Option (List ℕ)) (before now : ℕ) → Ends text old new before now s → IsAboutProgram s → ⊥
 not_program_ran status.Done text old new before now h a = a
+not_program_ran status.Help text old new before now h a = a
 not_program_ran status.Words text old new before now h a = a
 not_program_ran (status.Program f) text old new before now h a = h
 not_program_ran (status.Capture f) text old new before now h a = a
@@ -88,6 +93,7 @@ not_program_ran status.NoMemory text old new before now h a = a
 -- a count that rose since a later moment rose since an earlier one
 pub headers_earlier : (s : Status) (bytes : Option (List ℕ)) (first before now : ℕ) → first ≤ before → NoHeaders bytes before now s → NoHeaders bytes first now s
 headers_earlier status.Done bytes first before now e h = h
+headers_earlier status.Help bytes first before now e h = h
 headers_earlier status.Words bytes first before now e h = h
 headers_earlier (status.Program f) bytes first before now e h = h
 headers_earlier (status.Capture f) bytes first before now e h = h
@@ -136,6 +142,7 @@ no_read_fault seen through h = elim h [ inl r ↦ through.0 r | inr r ↦ throug
 
 pub program_always : (s : Status) (seen : Seen) → Because s seen → ProgramAlways s seen
 program_always status.Done seen h text e none through = absurd (not_program seen text e none h.program)
+program_always status.Help seen h text e none through = absurd h
 program_always status.Words seen h text e none through = absurd h
 program_always (status.Program program.NotYet) seen h text e none through = inl refl
 program_always (status.Program program.NoMemory) seen h text e none through = absurd h
@@ -146,6 +153,7 @@ program_always status.NoMemory seen h text e none through = inr refl
 
 pub capture_always : (s : Status) (seen : Seen) → Because s seen → CaptureAlways s seen
 capture_always status.Done seen h text bytes fault e f p none through = absurd (not_capture seen bytes fault f none h.capture)
+capture_always status.Help seen h text bytes fault e f p none through = absurd h
 capture_always status.Words seen h text bytes fault e f p none through = absurd h
 capture_always (status.Program program.NotYet) seen h text bytes fault e f p none through = absurd (is_program seen text e p h.0)
 capture_always (status.Program program.NoMemory) seen h text bytes fault e f p none through = absurd h
@@ -156,6 +164,7 @@ capture_always status.NoMemory seen h text bytes fault e f p none through = inr 
 
 pub complete : (s : Status) (seen : Seen) → Because s seen → IsComplete s seen
 complete status.Done seen h text bytes e f p c through out = inl refl
+complete status.Help seen h text bytes e f p c through out = absurd h
 complete status.Words seen h text bytes e f p c through out = absurd h
 complete (status.Program program.NotYet) seen h text bytes e f p c through out = absurd (is_program seen text e p h.0)
 complete (status.Program program.NoMemory) seen h text bytes e f p c through out = absurd h
@@ -164,7 +173,10 @@ complete status.ReadFault seen h text bytes e f p c through out = absurd (no_rea
 complete status.WriteFault seen h text bytes e f p c through out = absurd (out h.0)
 complete status.NoMemory seen h text bytes e f p c through out = inr refl
 
--- an answer with such a cause isn't Words
+-- an answer with such a cause isn't Help, nor Words
+pub not_help : (s : Status) (seen : Seen) → Because s seen → s ≡ status.Help → ⊥
+not_help s seen h e = let k : Because status.Help seen = subst (λ (x : Status). Because x seen) e h in k
+
 pub not_words : (s : Status) (seen : Seen) → Because s seen → s ≡ status.Words → ⊥
 not_words s seen h e = let k : Because status.Words seen = subst (λ (x : Status). Because x seen) e h in k
 

@@ -7,3 +7,5 @@ pub mod ReportLemmas
 pub mod MemoryLemmas
 pub mod TopLemmas
 pub mod CauseLemmas
+pub mod OneFault
+pub mod CommandLemmas

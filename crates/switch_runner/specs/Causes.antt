@@ -10,6 +10,7 @@ use Rattle.switch_runner.specs.declared.status.ProgramFault.TheVariants as progr
 use Rattle.switch_runner.specs.declared.status.Status.{Status}
 use Rattle.switch_runner.specs.declared.status.Status.TheVariants as status
 use Rattle.switch_runner.specs.Outside.{Rose, TookFront, gained}
+use Rattle.switch_runner.specs.HelpText.{help_text}
 use Rattle.switch_runner.specs.RefusalLine.{refusal_line}
 use Rattle.switch_runner.specs.Report
 use Rattle.switch_runner.specs.ThinProgram.{IsAccepted}
@@ -75,6 +76,7 @@ IsUnwritten seen = seen.new ≡ seen.old
 -- why taken words get this answer
 abbrev pub Because : Status → Seen → Type 0
 Because status.Done seen = OfReport seen (λ text. seen.new ≡ gained text seen.old)
+Because status.Help seen = ⊥
 Because status.Words seen = ⊥
 Because (status.Program program.NotYet) seen = IfSome seen.text IsNoProgram × IsUnwritten seen
 Because (status.Program program.NoMemory) seen = ⊥
@@ -92,6 +94,10 @@ IsReadThrough seen = (¬ Rose seen.program_before seen.program_after) × (¬ Ros
 abbrev pub IsOrNoMemory : Status → Status → Type 0
 IsOrNoMemory answer s = (answer ≡ s) ⊎ (answer ≡ status.NoMemory)
 
+-- the answer comes only where this holds, and then no other comes, unless memory ran out
+abbrev pub ComesWhere : Type 0 → Status → Status → Type 0
+ComesWhere P answer s = (answer ≡ s → P) × (P → IsOrNoMemory answer s)
+
 -- a told text that is no program is always answered so
 abbrev pub ProgramAlways : Status → Seen → Type 0
 ProgramAlways answer seen = (text : List ℕ) → seen.text ≡ Some text → IsNoProgram text → IsReadThrough seen → IsOrNoMemory answer (status.Program program.NotYet)
@@ -107,6 +113,7 @@ IsComplete answer seen = (text bytes : List ℕ) → seen.text ≡ Some text →
 -- the answer is about the program
 abbrev pub IsAboutProgram : Status → Type 0
 IsAboutProgram status.Done = ⊥
+IsAboutProgram status.Help = ⊥
 IsAboutProgram status.Words = ⊥
 IsAboutProgram (status.Program f) = Unit {0}
 IsAboutProgram (status.Capture f) = ⊥
@@ -114,9 +121,10 @@ IsAboutProgram status.ReadFault = ⊥
 IsAboutProgram status.WriteFault = ⊥
 IsAboutProgram status.NoMemory = ⊥
 
--- the line that tells of an answer other than Done
+-- what tells of an answer other than Done: a line, or the text of the help
 abbrev pub line : Status → List ℕ
 line status.Done = []
+line status.Help = help_text
 line status.Words = codes "mp5: words\n"
 line (status.Program program.NotYet) = codes "mp5: program 40\n"
 line (status.Program program.NoMemory) = codes "mp5: no memory\n"
@@ -128,6 +136,7 @@ line status.NoMemory = codes "mp5: no memory\n"
 -- the exit status of an answer
 abbrev pub code : Status → ℕ
 code status.Done = 0
+code status.Help = 1
 code status.Words = 2
 code (status.Program f) = 3
 code (status.Capture f) = 4

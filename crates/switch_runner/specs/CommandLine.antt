@@ -1,18 +1,72 @@
--- Which words the command takes: the program's own name, `one`, the name of a program and that of a capture.
-use Rattle.std.specs.Prelude.{ℕ, Bool, not, ◌&&◌, if◌then◌else◌, nat_eq, List, [], ◌∷◌, codes, Option, Some, None}
+-- The command line, in the words of `clap`'s description of simple commands.
+use Rattle.std.specs.Prelude.{◌≡◌, Bool, true, not, ◌&&◌, if◌then◌else◌, nat_eq, List, [], ◌∷◌, codes, Option, Some, None}
 use Rattle.std.specs.List.{starts_with}
 use Rattle.std.specs.Str.{bytes_eq}
+use Rattle.clap.specs.Words.{App, Kinds, Row, Rule, Text, fault_of, first_of, matches_of, new_app, new_rule, with_rule}
+use Rattle.clap.specs.declared.error.kind.ErrorKind.{ErrorKind}
+use Rattle.clap.specs.declared.error.kind.ErrorKind.TheVariants as kind
+use Rattle.switch_runner.specs.declared.status.Status.{Status}
+use Rattle.switch_runner.specs.declared.status.Status.TheVariants as status
 
--- a word that begins with `-` is no file's name
-abbrev pub is_file : List ℕ → Bool
-is_file word = not (starts_with nat_eq word (codes "-"))
+-- a word that has to be there
+abbrev pub required_word : Text → Rule
+required_word id = record (new_rule id) { required = true }
 
--- a name that begins with `gen:` is no capture that is read
-abbrev pub is_capture_file : List ℕ → Bool
-is_capture_file word = is_file word && not (starts_with nat_eq word (codes "gen:"))
+-- the command `mp5 MODE PROGRAM CAPTURE`; `clap` gives it the option for help
+unfoldable pub ours : App
+ours = with_rule
+    (with_rule
+    (with_rule (new_app (codes "mp5")) (required_word (codes "mode")))
+    (required_word (codes "program")))
+    (required_word (codes "capture"))
+
+-- the kind of the first error in the words, for which a call for help counts; none where the command takes them
+unfoldable pub faults : List Text → Kinds
+faults words = fault_of ours words
+
+-- the arguments that the words give, where the command takes them
+unfoldable pub arguments : List Text → List Row
+arguments words = matches_of ours words
+
+-- there is one mode, and a capture whose name begins with `gen:` can't be made yet
+abbrev pub is_run : Text → Text → Bool
+is_run mode capture = bytes_eq mode (codes "one") && not (starts_with nat_eq capture (codes "gen:"))
+
+-- the names of the program and of the capture, of a mode, a program and a capture
+abbrev pub files_of : Option Text → Option Text → Option Text → Option (Text × Text)
+files_of (Some mode) (Some program) (Some capture) = if is_run mode capture then Some (program, capture) else None
+files_of mode program capture = None
+
+-- the same, of the arguments
+abbrev pub files : List Row → Option (Text × Text)
+files rows = files_of (first_of (codes "mode") rows) (first_of (codes "program") rows) (first_of (codes "capture") rows)
+
+-- the same, where there is no error
+abbrev pub files_without : Kinds → List Row → Option (Text × Text)
+files_without [] rows = files rows
+files_without (k ∷ ks) rows = None
 
 -- the names of the program and of the capture that the words ask for; none where they aren't taken
-abbrev pub asked : List (List ℕ) → Option (List ℕ × List ℕ)
-asked (own ∷ mode ∷ program ∷ capture ∷ []) =
-    if bytes_eq mode (codes "one") && (is_file program && is_capture_file capture) then Some (program, capture) else None
-asked words = None
+abbrev pub asked : List Text → Option (Text × Text)
+asked words = files_without (faults words) (arguments words)
+
+-- the words ask for help, before any error
+abbrev pub AsksForHelp : List Text → Type 0
+AsksForHelp words = faults words ≡ kind.DisplayHelp ∷ []
+
+-- the words are neither taken nor a call for help
+abbrev pub IsRefused : List Text → Type 0
+IsRefused words = (asked words ≡ None) × (¬ AsksForHelp words)
+
+-- the answer to an error
+abbrev pub refusal : ErrorKind → Status
+refusal kind.DisplayHelp = status.Help
+refusal kind.OutOfMemory = status.NoMemory
+refusal k = status.Words
+
+-- why no names come of the words
+abbrev pub NotTaken : List Text → Status → Type 0
+NotTaken words status.Help = AsksForHelp words
+NotTaken words status.Words = IsRefused words
+NotTaken words status.NoMemory = Unit {0}
+NotTaken words s = ⊥

@@ -11,6 +11,7 @@ pub mod Checks
 pub mod Writing
 pub mod CommandLine
 pub mod Report
+pub mod HelpText
 pub mod RefusalLine
 pub mod Causes
 pub mod Transfer

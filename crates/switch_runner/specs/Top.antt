@@ -28,6 +28,7 @@ AreWide width (p ∷ ps) = (length p ≡ width) × AreWide width ps
 -- why no program was read, of what is told and of its name's count
 abbrev pub NoSource : Option (List ℕ) → ℕ → ℕ → Status → Type 0
 NoSource text before now status.Done = ⊥
+NoSource text before now status.Help = ⊥
 NoSource text before now status.Words = ⊥
 NoSource text before now (status.Program program.NotYet) = IfSome text IsNoProgram
 NoSource text before now (status.Program program.NoMemory) = ⊥
@@ -39,6 +40,7 @@ NoSource text before now status.NoMemory = Unit {0}
 -- why no capture was read
 abbrev pub NoHeaders : Option (List ℕ) → ℕ → ℕ → Status → Type 0
 NoHeaders bytes before now status.Done = ⊥
+NoHeaders bytes before now status.Help = ⊥
 NoHeaders bytes before now status.Words = ⊥
 NoHeaders bytes before now (status.Program f) = ⊥
 NoHeaders bytes before now (status.Capture f) = (f ≢ capture.NoMemory) × IfSome bytes (IsNoCapture f)
@@ -49,6 +51,7 @@ NoHeaders bytes before now status.NoMemory = Unit {0}
 -- how a run ends whose report is this text
 abbrev pub Ends : List ℕ → Option (List ℕ) → Option (List ℕ) → ℕ → ℕ → Status → Type 0
 Ends text old new before now status.Done = new ≡ gained text old
+Ends text old new before now status.Help = ⊥
 Ends text old new before now status.Words = ⊥
 Ends text old new before now (status.Program f) = ⊥
 Ends text old new before now (status.Capture f) = ⊥

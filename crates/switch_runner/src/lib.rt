@@ -7,9 +7,11 @@
 
 mod block;
 mod checks;
+mod command_line;
 mod edge;
 mod evaluate;
 mod fabric;
+mod help;
 mod line;
 mod memory;
 mod names;

@@ -1,10 +1,11 @@
-//! The line on standard error that tells how a call ends.
+//! What stands on standard error when a call ends.
 ghost use Rattle.std.specs.Prelude.{◌≡◌, ◌<◌, ◌/◌, ◌%◌, [], decimal};
 ghost use Rattle.std.specs.List.{flat_map};
 ghost use Rattle.switch_runner.specs.Causes.{line};
 ghost use Rattle.switch_runner.specs.RefusalLine.{hex_digit, hex_word, with_one, with_two, refusal_line};
 ghost use Rattle.switch_runner.specs.Writing.{Puts, at};
 
+use crate::help::help_text;
 use crate::outside::{Failed, Sink};
 use crate::status::{ProgramFault, Status};
 use crate::transfer::write_all;
@@ -114,12 +115,14 @@ fn write_refusal<K: Sink>(err: &mut K, fault: &CaptureFault) -> Result<(), Faile
     }
 }
 
-/// Writes the line that tells of a status; nothing for Done. Takes no memory.
+/// Writes the line that tells of a status, the text of the help for Help, and nothing for Done. Takes no
+/// memory.
 pub(crate) fn write_line<K: Sink>(err: &mut K, status: &Status) -> Result<(), Failed>
     ensures { Puts (line status.now) (at [] (K.taken err.old) (K.faults err.old)) (at [] (K.taken err.new) (K.faults err.new)) result }
 {
     match status {
         Status::Done => write_text(err, b""),
+        Status::Help => write_text(err, help_text().as_bytes()),
         Status::Words => write_text(err, b"mp5: words\n"),
         Status::Program(ProgramFault::NotYet) => write_text(err, b"mp5: program 40\n"),
         Status::Capture(fault) => write_refusal(err, fault),

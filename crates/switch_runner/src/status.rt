@@ -37,6 +37,8 @@ impl<T: Drop> From<AllocFailed<T>> for ProgramFault {
 pub enum Status {
     /// All was read, run and written.
     Done,
+    /// The words ask for help.
+    Help,
     /// The command doesn't take the words.
     Words,
     /// The program isn't accepted.
@@ -54,13 +56,14 @@ pub enum Status {
 impl Status {
     ghost use Rattle.switch_runner.specs.Causes as causes;
 
-    /// The exit status of the process: 0 for Done, 2 for Words, 3 for Program, 4 for Capture, 5 for
+    /// The exit status of the process: 0 for Done, 1 for Help, 2 for Words, 3 for Program, 4 for Capture, 5 for
     /// ReadFault, 6 for WriteFault and 7 for NoMemory.
     pub fn code(&self) -> u8
         ensures { result ≡ causes.code self.now }
     {
         match self {
             Status::Done => 0,
+            Status::Help => 1,
             Status::Words => 2,
             Status::Program(_) => 3,
             Status::Capture(_) => 4,

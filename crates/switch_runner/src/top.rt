@@ -1,10 +1,9 @@
 //! The top call: the words, the program, the capture, the run, the report.
 ghost use Rattle.std.specs.Prelude.{◌≡◌, ◌≢◌, ◌≤◌, ◌⊎◌, ◌↔◌, ℕ, List, length, map, take, string_bytes, IfOk, IfErr, IfSome, IfNone, IsErrOf, Some, None};
-ghost use Rattle.std.specs.Option.{option_map};
 ghost use Rattle.capture_io.specs.ClassicCapture.{Record, IsCapture};
 ghost use Rattle.capture_io.specs.Header.{headers};
 ghost use Rattle.domino_tree.specs.declared.program.Program.{Program};
-ghost use Rattle.switch_runner.specs.Causes.{IsNoProgram, IsAboutProgram, Because, ProgramAlways, CaptureAlways, IsComplete, saw, line};
+ghost use Rattle.switch_runner.specs.Causes.{IsNoProgram, IsAboutProgram, Because, ComesWhere, ProgramAlways, CaptureAlways, IsComplete, saw, line};
 ghost use Rattle.switch_runner.specs.CommandLine as command;
 ghost use Rattle.switch_runner.specs.Outside.{Rose, TookFront, gained};
 ghost use Rattle.switch_runner.specs.Report.{report};
@@ -12,6 +11,7 @@ ghost use Rattle.switch_runner.specs.ThinProgram.{IsAccepted};
 ghost use Rattle.switch_runner.specs.Top.{Stands, AreWide, NoSource, NoHeaders, Ends, is_no_memory, read_status};
 
 use crate::block::Block;
+use crate::command_line::asked;
 use crate::fabric::Fabric;
 use crate::line::write_line;
 use crate::outside::{Failed, Sink, Store, StoreFault};
@@ -40,9 +40,11 @@ pub fn switch_top<S: Store, K: Sink, F: Fabric>(
     err: &mut K,
     _fabric: &mut F,
 ) -> Status
-    // Words comes exactly where the words aren't taken, and then nothing is read or written.
-    ensures words { (result ≡ Status.Words) ↔ (command.asked (map string_bytes words.now) ≡ None) }
-    ensures untouched { result ≡ Status.Words → (K.taken out.new ≡ K.taken out.old) × ((name : List ℕ) → S.faults store.new name ≡ S.faults store.old name) }
+    // Help comes exactly where the words ask for it, and Words exactly where they are refused, unless memory
+    // runs out. Where they aren't taken, nothing is read or written.
+    ensures help { ComesWhere (command.AsksForHelp (map string_bytes words.now)) result Status.Help }
+    ensures words { ComesWhere (command.IsRefused (map string_bytes words.now)) result Status.Words }
+    ensures untouched { command.asked (map string_bytes words.now) ≡ None → (K.taken out.new ≡ K.taken out.old) × ((name : List ℕ) → S.faults store.new name ≡ S.faults store.old name) }
 
     // Each other answer has its cause. Done comes only with the whole report of the sequential run.
     ensures because { IfSome (command.asked (map string_bytes words.now)) (λ names. Because result
@@ -62,7 +64,8 @@ pub fn switch_top<S: Store, K: Sink, F: Fabric>(
     ensures others { IfSome (command.asked (map string_bytes words.now)) (λ names.
         (name : List ℕ) → name ≢ names.0 → name ≢ names.1 → S.faults store.new name ≡ S.faults store.old name) }
 
-    // Standard error gains the one line of the answer, or a front of it where a write to it fails.
+    // Standard error gains the one line of the answer, or the text of the help; a front of it where a write
+    // to it fails.
     ensures told { ¬ Rose (K.faults err.old) (K.faults err.new) → K.taken err.new ≡ gained (line result) (K.taken err.old) }
     ensures line { TookFront (K.taken err.old) (K.taken err.new) (line result) }
     ensures silent { result ≡ Status.Done → K.taken err.new ≡ K.taken err.old }
@@ -79,8 +82,9 @@ fn run_words<S: Store, K: Sink>(
     store: &mut S,
     out: &mut K,
 ) -> Status
-    ensures words { (result ≡ Status.Words) ↔ (command.asked (map string_bytes words.now) ≡ None) }
-    ensures untouched { result ≡ Status.Words → (K.taken out.new ≡ K.taken out.old) × ((name : List ℕ) → S.faults store.new name ≡ S.faults store.old name) }
+    ensures help { ComesWhere (command.AsksForHelp (map string_bytes words.now)) result Status.Help }
+    ensures words { ComesWhere (command.IsRefused (map string_bytes words.now)) result Status.Words }
+    ensures untouched { command.asked (map string_bytes words.now) ≡ None → (K.taken out.new ≡ K.taken out.old) × ((name : List ℕ) → S.faults store.new name ≡ S.faults store.old name) }
     ensures because { IfSome (command.asked (map string_bytes words.now)) (λ names. Because result
         (saw (S.told store.old) (S.faults store.old) (S.faults store.new) (K.faults out.old) (K.faults out.new) (K.taken out.old) (K.taken out.new) names.0 names.1)) }
     ensures unread { IfSome (command.asked (map string_bytes words.now)) (λ names.
@@ -88,39 +92,10 @@ fn run_words<S: Store, K: Sink>(
     ensures others { IfSome (command.asked (map string_bytes words.now)) (λ names.
         (name : List ℕ) → name ≢ names.0 → name ≢ names.1 → S.faults store.new name ≡ S.faults store.old name) }
 {
-    match asked(words) {
-        Some((program, capture)) => run_files(alloc, program, capture, store, out),
-        None => Status::Words,
+    match asked(alloc, words) {
+        Ok(files) => run_files(alloc, files.program, files.capture, store, out),
+        Err(status) => status,
     }
-}
-
-/// The names of the program and of the capture that the words ask for.
-fn asked(words: &[String]) -> Option<(&str, &str)>
-    ensures { option_map (λ names. (names.0.now, names.1.now)) result ≡ command.asked (map string_bytes words.now) }
-{
-    let [_, mode, program, capture] = words else {
-        return None;
-    };
-    let (program, capture) = (program.as_str(), capture.as_str());
-    if mode.as_str() == "one" && is_file(program) && is_capture_file(capture) {
-        Some((program, capture))
-    } else {
-        None
-    }
-}
-
-/// Whether a word can be a file's name.
-fn is_file(word: &str) -> bool
-    ensures { result ≡ command.is_file word.now }
-{
-    !word.as_bytes().starts_with(b"-")
-}
-
-/// Whether a word can be the name of a capture that is read.
-fn is_capture_file(word: &str) -> bool
-    ensures { result ≡ command.is_capture_file word.now }
-{
-    is_file(word) && !word.as_bytes().starts_with(b"gen:")
 }
 
 /// Reads the program and the capture, runs the transaction and writes the report.
@@ -252,7 +227,7 @@ fn run_and_report<K: Sink>(
     }
 }
 
-/// Writes the line that tells of a status.
+/// Writes what tells of a status.
 fn tell<K: Sink>(err: &mut K, status: &Status)
     ensures front { TookFront (K.taken err.old) (K.taken err.new) (line status.now) }
     ensures whole { ¬ Rose (K.faults err.old) (K.faults err.new) → K.taken err.new ≡ gained (line status.now) (K.taken err.old) }

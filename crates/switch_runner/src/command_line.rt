@@ -1,0 +1,195 @@
+//! The words of the command line, read with `clap`.
+ghost use Rattle.std.specs.Prelude.{◌≡◌, List, [], map, codes, string_bytes, IfOk, IfErr, Some, None, false};
+ghost use Rattle.clap.specs.Words.{FailsBy, app_of, first_value, found_of, rows_of, rule_of};
+ghost use Rattle.switch_runner.specs.CommandLine as command;
+
+use crate::status::Status;
+use clap::error::ErrorKind;
+use clap::{Arg, ArgMatches, Command, Error};
+use std::alloc::{AllocError, Global};
+
+/// The files that the words ask for.
+#[derive(Clone, Copy)]
+pub(crate) struct Files<'a> {
+    pub(crate) program: &'a str,
+    pub(crate) capture: &'a str,
+}
+
+/// The files that the words ask for, or the answer Help, Words or NoMemory.
+pub(crate) fn asked<'a>(alloc: Global, words: &'a [String]) -> Result<Files<'a>, Status>
+    ensures taken { IfOk result (λ f. command.asked (map string_bytes words.entry.now) ≡ Some (f.program.now, f.capture.now)) }
+    ensures refused { IfErr result (command.NotTaken (map string_bytes words.entry.now)) }
+{
+    match matched(alloc, words) {
+        Ok(matches) => files_of(&matches),
+        Err(error) => Err(refusal(error.kind())),
+    }
+}
+
+// The words, matched against the command.
+fn matched<'a>(alloc: Global, words: &'a [String]) -> Result<ArgMatches<'a>, Error>
+    ensures fails { FailsBy (command.faults (map string_bytes words.entry.now)) result }
+    ensures rows { IfOk result (λ m. rows_of (found_of m) ≡ command.arguments (map string_bytes words.entry.now)) }
+{
+    let command = command(alloc)?;
+    command.try_get_matches_from(words)
+}
+
+// The command `mp5 MODE PROGRAM CAPTURE`.
+fn command<'a>(alloc: Global) -> Result<Command<'a>, AllocError>
+    ensures { IfOk result (λ c. app_of c ≡ command.ours) }
+{
+    let command = Command::new(alloc, "mp5")
+        .arg(required_word(alloc, "mode"))?
+        .arg(required_word(alloc, "program"))?
+        .arg(required_word(alloc, "capture"))?;
+    Ok(command)
+}
+
+// A word that has to be there.
+fn required_word<'a>(alloc: Global, id: &'a str) -> Arg<'a>
+    ensures rule { rule_of result ≡ command.required_word id.entry.now }
+    ensures own { result.global ≡ false }
+{
+    Arg::new(alloc, id).required(true)
+}
+
+// The answer to an error.
+fn refusal(kind: ErrorKind) -> Status
+    ensures { result ≡ command.refusal kind }
+{
+    match kind {
+        ErrorKind::DisplayHelp => Status::Help,
+        ErrorKind::OutOfMemory => Status::NoMemory,
+        _ => Status::Words,
+    }
+}
+
+// The files of a run, or Words where the arguments are those of none.
+fn files_of<'a>(matches: &ArgMatches<'a>) -> Result<Files<'a>, Status>
+    ensures taken { IfOk result (λ f. command.files_of
+        (first_value (found_of matches.now) (codes "mode"))
+        (first_value (found_of matches.now) (codes "program"))
+        (first_value (found_of matches.now) (codes "capture")) ≡ Some (f.program.now, f.capture.now)) }
+    ensures refused { IfErr result (λ s. (s ≡ Status.Words) × (command.files_of
+        (first_value (found_of matches.now) (codes "mode"))
+        (first_value (found_of matches.now) (codes "program"))
+        (first_value (found_of matches.now) (codes "capture")) ≡ None)) }
+{
+    let (Some(mode), Some(program), Some(capture)) = (
+        matches.get_str("mode"),
+        matches.get_str("program"),
+        matches.get_str("capture"),
+    ) else {
+        return Err(Status::Words);
+    };
+    if is_run(mode, capture) {
+        Ok(Files { program, capture })
+    } else {
+        Err(Status::Words)
+    }
+}
+
+// Whether there is such a mode, and a capture of this name can be read.
+fn is_run(mode: &str, capture: &str) -> bool
+    ensures { result ≡ command.is_run mode.now capture.now }
+{
+    mode == "one" && !capture.as_bytes().starts_with(b"gen:")
+}
+
+#[cfg(test)]
+mod tests {
+    use super::*;
+    use std::test::Fail;
+
+    // The words of a line, which stand between single spaces; none in an empty line.
+    fn words_of(alloc: Global, line: &str) -> Result<Vec<String>, AllocError> {
+        let mut words = Vec::new(alloc);
+        if !line.is_empty() {
+            for word in line.split(' ') {
+                words.push(String::from_str(alloc, word)?)?;
+            }
+        }
+        Ok(words)
+    }
+
+    #[test]
+    fn words_that_are_taken(rt: HostRuntime) -> Result<(), Fail> {
+        let alloc = rt.alloc();
+        for (line, program, capture) in [
+            ("mp5 one p c", "p", "c"),
+            ("--help one p c", "p", "c"),
+            (" one p c", "p", "c"),
+            ("mp5 one one one", "one", "one"),
+            ("mp5 one - c", "-", "c"),
+            ("mp5 one p -", "p", "-"),
+            ("mp5 one  c", "", "c"),
+            ("mp5 one p ", "p", ""),
+            ("mp5 one gen:1:1 c", "gen:1:1", "c"),
+            ("mp5 one p gen", "p", "gen"),
+            ("mp5 one p Gen:1:1", "p", "Gen:1:1"),
+            ("mp5 -- one p c", "p", "c"),
+            ("mp5 one -- p c", "p", "c"),
+            ("mp5 one p c --", "p", "c"),
+            ("mp5 one -- -p --help", "-p", "--help"),
+            ("mp5 one p -- --", "p", "--"),
+        ] {
+            let words = words_of(alloc, line)?;
+            match asked(alloc, &words) {
+                Ok(files) => {
+                    assert_eq!(rt; files.program, program, "the program of '{line}'");
+                    assert_eq!(rt; files.capture, capture, "the capture of '{line}'");
+                }
+                Err(status) => assert_eq!(rt; status.code(), 0, "'{line}'"),
+            }
+        }
+        Ok(())
+    }
+
+    #[test]
+    fn words_that_are_not_taken(rt: HostRuntime) -> Result<(), Fail> {
+        let alloc = rt.alloc();
+        for (code, lines) in [
+            (
+                1,
+                "mp5 --help|mp5 -h|mp5 one --help|mp5 one p -h|mp5 one p c --help|mp5 --help p c",
+            ),
+            // Help is answered before what is wrong later, and before the mode and the capture are judged.
+            (
+                1,
+                "mp5 --help --brief|mp5 -hx|mp5 --help --help|mp5 two p c -h|mp5 one p gen:1:1 --help",
+            ),
+            // What is wrong before it is answered first.
+            (
+                2,
+                "mp5 --brief --help|mp5 -xh|mp5 one p c d --help|mp5 --help=x|mp5 --hel|mp5 --Help|mp5 ---help",
+            ),
+            (
+                2,
+                "|mp5|mp5 one|mp5 one p|mp5 one p c d|mp5 one p c |mp5 help|mp5 -- --help",
+            ),
+            (
+                2,
+                "mp5 two p c|mp5 One p c|mp5 on p c|mp5 ones p c|mp5  p c|mp5 p one c",
+            ),
+            (
+                2,
+                "mp5 one -p c|mp5 one p -c|mp5 one p -1|mp5 one p c --brief|mp5 one p --brief c|mp5 --brief --brief",
+            ),
+            (
+                2,
+                "mp5 --version|mp5 -V|mp5 one p c --version|mp5 one p c -V",
+            ),
+            (2, "mp5 one p gen:1:1|mp5 one p gen:|mp5 one -- p gen:x"),
+        ] {
+            for line in lines.split('|') {
+                let words = words_of(alloc, line)?;
+                match asked(alloc, &words) {
+                    Ok(_) => assert_eq!(rt; code, 0, "'{line}'"),
+                    Err(status) => assert_eq!(rt; status.code(), code, "'{line}'"),
+                }
+            }
+        }
+        Ok(())
+    }
+}

@@ -1,0 +1,52 @@
+//! The text of the help.
+ghost use Rattle.std.specs.Prelude.{◌≡◌};
+ghost use Rattle.switch_runner.specs.HelpText.{help_text};
+
+const HELP: &str = "\
+Runs a packet transaction over the packets of a capture, and prints what becomes
+of them and of the registers.
+
+Usage: mp5 MODE PROGRAM CAPTURE
+       mp5 --help
+
+Arguments:
+  MODE     how to run:
+             one   one packet after another, in order of arrival, on one thread
+  PROGRAM  the file of the transaction, a text in Domino of at most 65536 bytes
+  CAPTURE  the file of the packets, a classic capture (pcap) of Ethernet frames
+           of at most 134217728 bytes; its name can't begin with gen:
+
+Options:
+  -h, --help  prints this text on standard error
+  --          ends the options, so that the name of a file may begin with -
+
+The exit status is 0 where the whole report was written, and else
+  1  help was asked for          5  a file could not be read
+  2  the words aren't taken      6  the report could not be written
+  3  the program isn't accepted  7  memory ran out
+  4  the capture isn't read
+";
+
+/// The text of the help.
+#[tactic(auto, unfolding(crate::specs::HelpText::help_text))]
+pub(crate) fn help_text() -> &'static str
+    ensures { result.now ≡ help_text }
+{
+    HELP
+}
+
+#[cfg(test)]
+mod tests {
+    use super::*;
+
+    #[test]
+    fn the_help_fits_a_terminal(rt: HostRuntime) {
+        let text = help_text();
+        for line in text.lines() {
+            assert!(rt; line.len() <= 80, "'{line}'");
+        }
+        for word in ["one", "MODE", "PROGRAM", "CAPTURE", "--help"] {
+            assert!(rt; text.contains(word), "{word}");
+        }
+    }
+}
