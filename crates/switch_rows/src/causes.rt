@@ -28,20 +28,20 @@ fn words(rt: HostRuntime) -> Result<(), Fail> {
         ),
         (
             2,
-            "mp5 one -p c|mp5 one - c|mp5 one -- c|mp5 one --brief c|mp5 one p -c|mp5 one p -|mp5 one p --help|mp5 one -p -c",
+            "mp5 one -p c|mp5 one -- c|mp5 one --brief c|mp5 one p -c|mp5 one -p -c|mp5 one p c -- d|mp5 -V|mp5 one --version p c",
         ),
         (
             2,
-            "mp5 one p gen:1:1|mp5 one p gen:|mp5 one p gen:x|mp5 one -p gen:x|mp5 --help p c",
+            "mp5 one p gen:1:1|mp5 one p gen:|mp5 one p gen:x|mp5 one -p gen:x|mp5 one p -- gen:1:1",
         ),
         // A program that isn't listed is empty, so no read of a capture follows.
         (
             3,
-            "mp5 one q c|mp5 one gen:x c|mp5 one q p|mp5 one q q|mp5 one  c|mp5 one p- c|mp5 one _p c|mp5 one P c",
+            "mp5 one q c|mp5 one gen:x c|mp5 one q p|mp5 one q q|mp5 one  c|mp5 one p- c|mp5 one _p c|mp5 one P c|mp5 one - c",
         ),
         (
             5,
-            "mp5 one p c|-x one p c| one p c|mp5 one c p|mp5 one p p|mp5 one p q|mp5 one p gen|mp5 one p Gen:1:1|mp5 one p ",
+            "mp5 one p c|-x one p c| one p c|mp5 one c p|mp5 one p p|mp5 one p q|mp5 one p gen|mp5 one p Gen:1:1|mp5 one p |mp5 one p -|mp5 -- one p c",
         ),
     ] {
         for line in lines.split('|') {
@@ -76,6 +76,28 @@ fn words(rt: HostRuntime) -> Result<(), Fail> {
             let ended = call(alloc, line, &mut store, taken, err)?;
             assert_refused(&rt, alloc, &ended, refusal, line)?;
         }
+    }
+    Ok(())
+}
+
+// Help is told on the errors' sink, and nothing is read or written.
+#[test]
+fn calls_for_help(rt: HostRuntime) -> Result<(), Fail> {
+    let alloc = rt.alloc();
+    for line in [
+        "mp5 --help",
+        "mp5 -h",
+        "mp5 --help p c",
+        "mp5 one p --help",
+        "mp5 one p c -h",
+        "mp5 fly p c --help",
+    ] {
+        let mut store = counting(alloc, &[1])?;
+        let (out, err) = (sink(alloc, 99, &[])?, sink(alloc, 99, &[])?);
+        let ended = call(alloc, line, &mut store, out, err)?;
+        assert_eq!(rt; ended.status.code(), 1, "at {line}");
+        assert_eq!(rt; text_of(&ended.out), "", "at {line}");
+        assert!(rt; text_of(&ended.err).starts_with("Runs a packet transaction over"));
     }
     Ok(())
 }
@@ -187,6 +209,7 @@ fn other_stores_and_sinks(rt: HostRuntime) -> Result<(), Fail> {
 fn codes(rt: HostRuntime) {
     for (status, code) in [
         (Status::Done, 0),
+        (Status::Help, 1),
         (Status::Words, 2),
         (Status::Program(ProgramFault::NotYet), 3),
         (Status::ReadFault, 5),
