@@ -6,6 +6,9 @@ use thiserror::Error;
 /// Why a text isn't read.
 #[derive(Debug, Drop, Error)]
 pub enum TextFault {
+    /// At this byte no token begins, and all before it are whole tokens, white space and comments.
+    #[error("no token begins at byte {0}")]
+    BadToken(u32),
     /// The text isn't one whose tokens the grammar derives.
     #[error("the text is no program of the grammar")]
     NotYet,
