@@ -7,3 +7,4 @@ pub mod Cutting
 pub mod Pieces
 pub mod ThinText
 pub mod Reading
+pub mod Weighing

@@ -9,6 +9,7 @@ mod lex;
 mod parse;
 mod read;
 mod reader;
+mod weigh;
 
 pub use fault::TextFault;
 pub use read::read_program;
