@@ -6,10 +6,7 @@
 
 mod fault;
 mod lex;
-mod parse;
-mod read;
 mod reader;
 mod weigh;
 
 pub use fault::TextFault;
-pub use read::read_program;
