@@ -2,3 +2,4 @@ pub mod LexLemmas
 pub mod PieceLemmas
 pub mod Turns
 pub mod WeighLemmas
+pub mod Weighing

@@ -1,4 +1,4 @@
-use Rattle.std.proofs.Common.{◌≡◌, ◌∙◌, ap, sym}
+use Rattle.std.proofs.Common.{◌∙◌, ap, sym}
 use Rattle.domino_tree.specs.Weight.{after_token}
 use Rattle.domino_syntax.proofs.WeighLemmas.{counters_more, light_step, heavy_here}
 use Rattle.domino_syntax.proofs.weigh.heavy_at.Goals as goal
