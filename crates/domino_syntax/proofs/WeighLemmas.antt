@@ -1,11 +1,11 @@
 -- The weight of one more token.
-use Rattle.std.proofs.Common.{◌≡◌, ◌≤◌, ◌<◌, ℕ, ◌+◌, nat_le, Bool, true, false, ◌&&◌, List, [], ◌∷◌, ◌++◌, length, get_or, take, refl, sym, ap, ◌∙◌, arith}
+use Rattle.std.proofs.Common.{◌≡◌, ◌≤◌, ◌<◌, ℕ, ◌+◌, nat_le, Bool, true, false, ◌&&◌, List, [], ◌∷◌, ◌++◌, length, get_or, take, refl, sym, ap, ◌∙◌}
 use Rattle.std.proofs.lemmas.Bool.{le-leb}
 use Rattle.std.proofs.lemmas.List.{take_more}
 use Rattle.std.proofs.lemmas.List.Sums.{fold-append}
 use Rattle.std.specs.List.{fold}
 use Rattle.domino_tree.specs.declared.token.Token.{Token}
-use Rattle.domino_tree.specs.Weight.{after_token, load, stays_light, is_light, weight}
+use Rattle.domino_tree.specs.Weight.{after_token, load, stays_light, is_light}
 use Rattle.domino_syntax.specs.Weighing.{IsHeavyAt}
 
 -- light tokens and one that isn't too heavy are light

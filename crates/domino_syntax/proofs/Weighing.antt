@@ -1,6 +1,6 @@
 -- The canonical tokens of what is derived from light tokens are light: only a `-` in a value is left out, and
 -- that makes no counter greater.
-use Rattle.std.proofs.Common.{◌≡◌, ◌⊎◌, inl, inr, ◌≤◌, ℕ, suc, ◌+◌, ℤ, nat_le, Bool, true, false, ◌&&◌, List, [], ◌∷◌, ◌++◌, length, sum, drop, flat_map, Option, refl, sym, ap, subst, ◌∙◌, arith}
+use Rattle.std.proofs.Common.{◌≡◌, inl, inr, ◌≤◌, ℕ, ◌+◌, ℤ, nat_le, Bool, true, false, ◌&&◌, List, [], ◌∷◌, ◌++◌, length, sum, drop, flat_map, refl, sym, ap, subst, ◌∙◌, arith}
 use Rattle.std.proofs.lemmas.Bool.{le-leb, leb-true}
 use Rattle.std.specs.List.{fold}
 use Rattle.std.proofs.lemmas.List.Sums.{fold-append}
@@ -19,7 +19,7 @@ use Rattle.domino_tree.specs.declared.program.PacketDecl.{PacketDecl}
 use Rattle.domino_tree.specs.declared.program.Function.{Function}
 use Rattle.domino_tree.specs.Grammar.{size_tokens, length_tokens, start_tokens, item_tokens, packet_tokens, function_tokens, program_tokens}
 use Rattle.domino_tree.specs.Weight.{cleared, counted, after_sign, after_token, load, stays_light, is_light}
-use Rattle.domino_tree.specs.Derives.{IsNegated, IsValue, IsEntry, IsStart, IsItem, AreItems, none, more, Parts}
+use Rattle.domino_tree.specs.Derives.{IsValue, IsEntry, IsStart, IsItem, AreItems, none, more, Parts}
 
 -- ---- counters
 

@@ -6,3 +6,4 @@ pub mod Cutting
 pub mod Pieces
 pub mod Parsers
 pub mod Weighing
+pub mod Printing
