@@ -7,3 +7,5 @@ pub mod Pieces
 pub mod Parsers
 pub mod Weighing
 pub mod Printing
+pub mod Stuck
+pub mod ProgramText
