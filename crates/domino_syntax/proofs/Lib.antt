@@ -1,11 +1,3 @@
 pub mod LexLemmas
 pub mod PieceLemmas
 pub mod Turns
-pub mod Exact
-pub mod OneToken
-pub mod References
-pub mod Expressions
-pub mod Statements
-pub mod Declarations
-pub mod Programs
-pub mod Deciding

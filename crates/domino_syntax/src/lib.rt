@@ -6,9 +6,6 @@
 
 mod fault;
 mod lex;
-mod parse;
-mod read;
 mod reader;
 
 pub use fault::TextFault;
-pub use read::read_program;
