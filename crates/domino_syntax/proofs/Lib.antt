@@ -1,3 +1,4 @@
 pub mod LexLemmas
 pub mod PieceLemmas
 pub mod Turns
+pub mod Chains
