@@ -1,3 +1,5 @@
 pub mod LexLemmas
 pub mod PieceLemmas
 pub mod Turns
+pub mod Exact
+pub mod OneToken
