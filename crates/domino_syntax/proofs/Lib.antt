@@ -1,4 +1,6 @@
 pub mod LexLemmas
 pub mod PieceLemmas
 pub mod Turns
+pub mod Exact
+pub mod OneToken
 pub mod Chains
