@@ -4,3 +4,5 @@ pub mod Turns
 pub mod Exact
 pub mod OneToken
 pub mod Chains
+pub mod Known
+pub mod ExactDeclarations
