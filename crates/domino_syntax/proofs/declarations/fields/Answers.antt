@@ -1,5 +1,4 @@
 use Rattle.std.proofs.Common.{◌≡◌, ◌-◌, ◌+◌, suc, true, length, Ok, arith}
-use Rattle.domino_syntax.proofs.ExactDeclarations.{exact_packet}
 use Rattle.domino_tree.specs.declared.token.Keyword.TheVariants.{Int}
 use Rattle.domino_syntax.specs.Parsers.{first, sees_keyword}
 use Rattle.domino_syntax.specs.ReadingPrograms.{begins_item, field}
