@@ -9,3 +9,8 @@ pub mod ExactDeclarations
 pub mod ExactExpressions
 pub mod ExactStatements
 pub mod ExactPrograms
+pub mod WeighLemmas
+pub mod Weighing
+pub mod TokenText
+pub mod NamedTokens
+pub mod PrintedText

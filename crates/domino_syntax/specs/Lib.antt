@@ -7,3 +7,5 @@ pub mod Pieces
 pub mod Parsers
 pub mod ReadingExpressions
 pub mod ReadingPrograms
+pub mod Weighing
+pub mod Printing

@@ -11,5 +11,6 @@ mod lex;
 mod parse;
 mod reader;
 mod statements;
+mod weigh;
 
 pub use fault::TextFault;
