@@ -1,6 +1,14 @@
 pub mod LexLemmas
 pub mod PieceLemmas
 pub mod Turns
+pub mod Exact
+pub mod OneToken
+pub mod Chains
+pub mod Known
+pub mod ExactDeclarations
+pub mod ExactExpressions
+pub mod ExactStatements
+pub mod ExactPrograms
 pub mod WeighLemmas
 pub mod Weighing
 pub mod TokenText

@@ -5,6 +5,8 @@ pub mod Tokens
 pub mod Cutting
 pub mod Pieces
 pub mod Parsers
+pub mod ReadingExpressions
+pub mod ReadingPrograms
 pub mod Weighing
 pub mod Printing
 pub mod Stuck

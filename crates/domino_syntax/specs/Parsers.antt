@@ -1,7 +1,7 @@
 -- Parsers as functions on token lists. Each takes a form from the front of a list, and gives what it read
 -- and the tokens after it, or refuses and gives the list from the refused token on. What it does depends on
 -- the tokens that it takes and on the next one.
-use Rattle.std.specs.Prelude.{◌≡◌, ℕ, ℤ, zero, suc, Bool, true, false, if◌then◌else◌, List, [], ◌∷◌, ◌++◌, length, drop, Option, Some, None, Result, Ok, Err}
+use Rattle.std.specs.Prelude.{◌≡◌, ℕ, ℤ, zero, suc, Bool, false, if◌then◌else◌, List, [], ◌∷◌, ◌++◌, length, Option, Some, None, Result, Ok, Err}
 use Rattle.std.specs.Option.{is_some}
 use denote.Enum.Bare.{sameb}
 use Rattle.domino_tree.specs.contracts.token.Sign.{the_type as sign_type}
