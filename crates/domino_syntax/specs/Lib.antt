@@ -5,3 +5,4 @@ pub mod Tokens
 pub mod Cutting
 pub mod Pieces
 pub mod Parsers
+pub mod ReadingExpressions

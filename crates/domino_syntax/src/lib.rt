@@ -4,8 +4,10 @@
 //! text has two, and that a text is refused only where it has none.
 #![tactic(auto)]
 
+mod expressions;
 mod fault;
 mod lex;
+mod operators;
 mod reader;
 
 pub use fault::TextFault;
