@@ -5,3 +5,4 @@ pub mod Tiers
 pub mod Exact
 pub mod OneToken
 pub mod ExpressionsStops
+pub mod ExpressionsForms
