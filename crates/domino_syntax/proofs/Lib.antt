@@ -1,8 +1,11 @@
 pub mod LexLemmas
 pub mod PieceLemmas
 pub mod Turns
+pub mod Tiers
 pub mod Exact
 pub mod OneToken
+pub mod ExpressionsStops
+pub mod ExpressionsForms
 pub mod Chains
 pub mod Known
 pub mod ExactDeclarations
