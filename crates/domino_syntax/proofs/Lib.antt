@@ -14,3 +14,4 @@ pub mod Weighing
 pub mod TokenText
 pub mod NamedTokens
 pub mod PrintedText
+pub mod Deciding

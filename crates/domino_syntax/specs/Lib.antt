@@ -9,3 +9,4 @@ pub mod ReadingExpressions
 pub mod ReadingPrograms
 pub mod Weighing
 pub mod Printing
+pub mod Stuck
