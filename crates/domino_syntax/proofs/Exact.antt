@@ -449,6 +449,11 @@ module _ {A : Type 0} (begins : A → Option Token → Bool) (step : A → Parse
     reads = λ tokens few named. (repeat_exact n exact (length tokens) few x).reads tokens (omega arith) named;
   }
 
+  -- a form, and steps that go on from it
+  pub exact_chain : {n : ℕ} {p : Parser A} {H : Grammar A} → Exact n p H between → ((x : A) → Exact n (step x) (G x) between) → Exact n (p >>= going_on begins step) (Then H (Runs G)) later
+  exact_chain exact steps =
+      exact_then exact (exact_repeat steps) (λ x used rest z run stop. run_follows x used rest z (run_from G x used z run) stop) (λ x. ([], x, stay x))
+
 -- ---- forms of one kind, one after another
 
 abbrev pub Many : {A : Type 0} → Grammar A → Grammar (List A)

@@ -1,6 +1,7 @@
 pub mod LexLemmas
 pub mod PieceLemmas
 pub mod Turns
+pub mod Tiers
 pub mod Exact
 pub mod OneToken
 pub mod Chains
@@ -15,3 +16,5 @@ pub mod TokenText
 pub mod NamedTokens
 pub mod PrintedText
 pub mod Deciding
+pub mod ExpressionsStops
+pub mod ExpressionsForms

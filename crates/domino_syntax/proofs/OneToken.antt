@@ -1,5 +1,6 @@
 -- The parsers of one token are exact, and so is a form behind a token, or with one behind it.
-use Rattle.std.proofs.Common.{◌≡◌, ℕ, suc, ℤ, pos, Bool, true, false, if◌then◌else◌, List, [], ◌∷◌, ◌++◌, length, Some, None, refl, ap, sym, ◌∙◌, arith, rules}
+use Rattle.std.proofs.Common.{◌≡◌, ℕ, suc, ℤ, pos, Bool, true, false, if◌then◌else◌, List, [], ◌∷◌, ◌++◌, length, Option, Some, None, refl, ap, sym, ◌∙◌, arith, rules}
+use Rattle.std.specs.Option.{is_some}
 use denote.Enum.Bare.{same_true, true_same}
 use Rattle.domino_tree.specs.contracts.token.Sign.{the_type as sign_type}
 use Rattle.domino_tree.specs.contracts.token.Keyword.{the_type as keyword_type}
@@ -9,7 +10,7 @@ use Rattle.domino_tree.specs.declared.token.Keyword.{Keyword}
 use Rattle.domino_tree.specs.declared.token.Sign.{Sign}
 use Rattle.domino_tree.specs.Grammar.{is_name}
 use Rattle.domino_syntax.specs.Tokens.{is_token}
-use Rattle.domino_syntax.specs.Parsers.{Parser, first, ◌>>=◌, ◌>>◌, pure, same_sign, same_keyword, that_sign, that_keyword, a_define, a_name, a_number, sign, keyword, define, name, number}
+use Rattle.domino_syntax.specs.Parsers.{Parser, first, ◌>>=◌, ◌>>◌, pure, same_sign, same_keyword, that_sign, that_keyword, a_define, a_name, a_number, sign, keyword, define, name, number, sees_sign}
 use Rattle.domino_syntax.proofs.Exact.{Grammar, Stops, anywhere, Exact, exact_as, exact_one, exact_pure, exact_then, exact_behind, Nothing, Then, By}
 
 -- this token
@@ -39,6 +40,32 @@ exact_sign s = exact_one (record {
   from = λ used x h. (token.Sign s, h, sign_taken s);
   some = (token.Sign s ∷ [], tt, refl);
 })
+
+-- the next token is a sign where it is seen
+pub seen_sign : (s : Sign) (t : Option Token) → sees_sign s t ≡ true → t ≡ Some (token.Sign s)
+seen_sign s None h = cc
+seen_sign s (Some t) h = ap Some (found (that_sign s t) refl h)
+  where
+    found : (o : Option (Unit {0})) → that_sign s t ≡ o → is_some o ≡ true → t ≡ token.Sign s
+    found None is h = cc
+    found (Some x) is h = sign_is s t x is
+
+pub sees_itself : (s : Sign) → sees_sign s (Some (token.Sign s)) ≡ true
+sees_itself s = ap is_some (sign_taken s)
+
+-- where a form may not end before a sign, no such sign is seen
+pub unseen_sign : (s : Sign) (stops : Stops) → stops (Some (token.Sign s)) ≡ false → (t : Option Token) → stops t ≡ true → sees_sign s t ≡ false
+unseen_sign s stops never t stop = by_test (sees_sign s t) refl
+  where
+    by_test : (b : Bool) → sees_sign s t ≡ b → sees_sign s t ≡ false
+    by_test false h = h
+    by_test true h =
+        let e : true ≡ false = sym stop ∙ (ap stops (seen_sign s t h) ∙ never) in
+        cc
+
+-- where a form may end before a sign, it may end where such a sign is seen
+pub stops_at_sign : (s : Sign) (stops : Stops) → stops (Some (token.Sign s)) ≡ true → (t : Option Token) → sees_sign s t ≡ true → stops t ≡ true
+stops_at_sign s stops ends t h = ap stops (seen_sign s t h) ∙ ends
 
 -- ---- a reserved name
 
@@ -141,6 +168,10 @@ pub record Behind {A : Type 0} (t : Token) (G : Grammar A) (used : List Token) (
   pub inner : List Token
   pub text : used ≡ t ∷ inner
   pub form : G inner x
+
+-- a form behind a token begins with it
+pub behind_first : {A : Type 0} (t : Token) (G : Grammar A) (used rest : List Token) (x : A) → Behind t G used x → first (used ++ rest) ≡ Some t
+behind_first t G used rest x h = ap (λ l. first (l ++ rest)) h.text
 
 module _ {A : Type 0} (t : Token) (G : Grammar A) where
   behind_to : (used : List Token) (x : A) → Then (IsToken t) (λ _. G) used x → Behind t G used x

@@ -20,10 +20,18 @@ module _ {A : Type 0} (begins : A → Option Token → Bool) (step : A → Parse
   repeat_ends zero ends = refl
   repeat_ends (suc n) ends = rw ends
 
+  pub repeat_over : (n : ℕ) → n ≡ 0 → repeat begins step n found tokens ≡ Ok (found, tokens)
+  unfolding repeat
+  repeat_over n is_zero = rw is_zero
+
 -- one turn of a loop over all the forms of one kind
 pub all_turn : {A : Type 0} (begins : Option Token → Bool) (form : Parser A) (n m : ℕ) (found : List A) (tokens rest : List Token) (x : A) → n ≡ suc m → begins (first tokens) ≡ true → form tokens ≡ Ok (x, rest) → repeat (λ _. begins) (adding form) n found tokens ≡ repeat (λ _. begins) (adding form) m (found ++ x ∷ []) rest
 unfolding repeat
 all_turn begins form n m found tokens rest x is_suc sees read = rw (is_suc, sees, read)
+
+pub all_refuses : {A : Type 0} (begins : Option Token → Bool) (form : Parser A) (n m : ℕ) (found : List A) (tokens rest : List Token) → n ≡ suc m → begins (first tokens) ≡ true → form tokens ≡ Err rest → repeat (λ _. begins) (adding form) n found tokens ≡ Err rest
+unfolding repeat
+all_refuses begins form n m found tokens rest is_suc sees read = rw (is_suc, sees, read)
 
 -- what `?` hands on
 pub passes_on : {A B : Type 0} (read : Outcome A) (whole : Outcome B) (e : Stop) (result : Result B Stop) (rest : List Token) → IsErrAnd result (λ f. f ≡ e) → (read ≡ Err rest → whole ≡ Err rest) → Reads read (Err e) rest → Reads whole result rest

@@ -8,6 +8,7 @@ mod declarations;
 mod expressions;
 mod fault;
 mod lex;
+mod operators;
 mod parse;
 mod reader;
 mod statements;

@@ -3,9 +3,11 @@
 ghost use Rattle.std.specs.Prelude.{◌≡◌, length, IfOk};
 ghost use Rattle.domino_syntax.specs.Parsers as spec;
 ghost use Rattle.domino_syntax.specs.Parsers.{Reads, first};
+ghost use Rattle.domino_syntax.specs.ReadingExpressions as expressions;
 
+use crate::operators::{operator_before, operator_of_level};
 use domino_tree::{Keyword, Sign, Token};
-use mp5_words::Name;
+use mp5_words::{Name, Op1, Op2};
 use std::alloc::{AllocError, AllocFailed, Global};
 use std::marker::Model;
 
@@ -131,6 +133,26 @@ impl<'a> Reader<'a> {
         }
     }
 
+    /// Whether an operator before an expression comes next.
+    pub fn sees_unary(&self) -> bool
+        ensures { result ≡ spec.sees expressions.a_unary (first self.now) }
+    {
+        match self.rest {
+            [Token::Sign(next), ..] => operator_before(*next).is_some(),
+            _ => false,
+        }
+    }
+
+    /// Whether an operator of this level comes next.
+    pub fn sees_binary(&self, level: usize) -> bool
+        ensures { result ≡ spec.sees (expressions.a_binary level) (first self.now) }
+    {
+        match self.rest {
+            [Token::Sign(next), ..] => operator_of_level(level, *next).is_some(),
+            _ => false,
+        }
+    }
+
     #[tactic(auto, unfolding(crate::specs::Parsers::sign))]
     pub fn sign(&mut self, sign: Sign) -> Result<(), Stop>
         ensures { Reads (spec.sign sign self.old) result self.new }
@@ -193,6 +215,40 @@ impl<'a> Reader<'a> {
                 self.rest = rest;
                 Ok(*number)
             }
+            _ => Err(Stop::Syntax),
+        }
+    }
+
+    /// An operator before an expression.
+    #[tactic(auto, unfolding(crate::specs::ReadingExpressions::unary))]
+    pub fn unary(&mut self) -> Result<Op1, Stop>
+        ensures { Reads (expressions.unary self.old) result self.new }
+    {
+        match self.rest {
+            [Token::Sign(next), rest @ ..] => match operator_before(*next) {
+                Some(op) => {
+                    self.rest = rest;
+                    Ok(op)
+                }
+                None => Err(Stop::Syntax),
+            },
+            _ => Err(Stop::Syntax),
+        }
+    }
+
+    /// An operator of this level.
+    #[tactic(auto, unfolding(crate::specs::ReadingExpressions::binary))]
+    pub fn binary(&mut self, level: usize) -> Result<Op2, Stop>
+        ensures { Reads (expressions.binary level self.old) result self.new }
+    {
+        match self.rest {
+            [Token::Sign(next), rest @ ..] => match operator_of_level(level, *next) {
+                Some(op) => {
+                    self.rest = rest;
+                    Ok(op)
+                }
+                None => Err(Stop::Syntax),
+            },
             _ => Err(Stop::Syntax),
         }
     }
