@@ -17,3 +17,4 @@ pub mod Weighing
 pub mod TokenText
 pub mod NamedTokens
 pub mod PrintedText
+pub mod Deciding
