@@ -6,3 +6,4 @@ pub mod Exact
 pub mod OneToken
 pub mod ExpressionsStops
 pub mod ExpressionsForms
+pub mod ExpressionsLevels
