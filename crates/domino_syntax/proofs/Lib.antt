@@ -7,7 +7,6 @@ pub mod OneToken
 pub mod Chains
 pub mod Known
 pub mod ExactDeclarations
-pub mod ExactExpressions
 pub mod ExactStatements
 pub mod ExactPrograms
 pub mod WeighLemmas
