@@ -24,7 +24,9 @@ use Rattle.domino_syntax.specs.ReadingPrograms.{dotted, indexed, after_name, tar
 use Rattle.domino_syntax.proofs.Exact.{Grammar, Stops, anywhere, Exactly, ReadsForm, Exact, exact_below, exact_as, exact_narrower, exact_map, Image, exact_pure, Nothing, Then, Either, exact_choice, Many, exact_all, By, list_to, list_from, first_none}
 use Rattle.domino_syntax.proofs.OneToken.{IsName, name_tokens, exact_sign, exact_keyword, exact_name, Behind, Closed, exact_closed}
 use Rattle.domino_syntax.proofs.Known.{exact_some, in_turn, behind, opened, Rest, rest_known, rest_token, rest_opened, rest_part, exact_by}
-use Rattle.domino_syntax.proofs.ExactExpressions.{is_expression, IsExpression, ends_expression, exact_expression}
+use Rattle.domino_syntax.proofs.ExpressionsStops.{stops_at}
+use Rattle.domino_syntax.proofs.ExpressionsForms.{At}
+use Rattle.domino_syntax.proofs.ExpressionsLevels.{exact_expression}
 
 and_true : (b : Bool) → (b && true) ≡ b
 and_true true = refl
@@ -33,6 +35,16 @@ and_true false = refl
 not_true : (b : Bool) → not b ≡ true → b ≡ false
 not_true true h = sym h
 not_true false h = refl
+
+-- any expression
+abbrev is_expression : Expr → Bool
+is_expression e = stands e 0
+
+abbrev IsExpression : Grammar Expr
+IsExpression = At 0
+
+abbrev ends_expression : Stops
+ends_expression = stops_at 0
 
 -- ---- targets
 

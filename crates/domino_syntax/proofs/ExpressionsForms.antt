@@ -1,7 +1,7 @@
 -- The parser of the forms without operators between expressions is exact, where those of the expressions in them
 -- are.
-use Rattle.std.proofs.Common.{◌≡◌, ◌⊎◌, ℕ, suc, ◌≤◌, ℤ, Bool, true, false, ◌&&◌, nat_le, nat_eq, List, [], ◌∷◌, ◌++◌, length, map, Option, Some, None, inl, inr, refl, ap, sym, subst, ◌∙◌, append_assoc, arith, length-append}
-use Rattle.std.specs.List.{list_all, flat_map}
+use Rattle.std.proofs.Common.{◌≡◌, ℕ, suc, ◌≤◌, Bool, true, false, nat_le, List, [], ◌∷◌, ◌++◌, length, map, Some, None, inl, inr, refl, ap, sym, subst, ◌∙◌, append_assoc, arith}
+use Rattle.std.specs.List.{list_all}
 use Rattle.std.proofs.lemmas.Bool.{and_from, and_parts}
 use Rattle.std.proofs.lemmas.List.Concat.{flat_map-cons}
 use Rattle.mp5_words.specs.declared.op.Op1.{Op1}
@@ -15,12 +15,11 @@ use Rattle.domino_tree.specs.declared.token.Sign.TheVariants as signs
 use Rattle.domino_tree.specs.declared.expr.Expr.{Expr}
 use Rattle.domino_tree.specs.declared.expr.Expr.TheVariants as expr
 use Rattle.domino_tree.specs.Grammar.{is_name, sign_before, level, in_round, in_square, with_commas, separated, field_tokens, spelled, stands}
-use Rattle.domino_tree.proofs.ExprLemmas.{Each, induct, spelled-Number, spelled-Word, spelled-Field, spelled-Cell, spelled-One, spelled-Two, spelled-Pick, spelled-Call, spelled-Group, stands-Number, stands-Word, stands-Field, stands-Cell, stands-One, stands-Two, stands-Pick, stands-Call, stands-Group}
-use Rattle.domino_syntax.specs.Tokens.{is_token}
-use Rattle.domino_syntax.specs.Parsers.{Parser, first, sees, sees_sign, sees_number, a_number, that_sign, sign, name}
+use Rattle.domino_tree.proofs.ExprLemmas.{induct, spelled-Number, spelled-Word, spelled-Field, spelled-Cell, spelled-One, spelled-Two, spelled-Pick, spelled-Call, spelled-Group, stands-Number, stands-Word, stands-Field, stands-Cell, stands-One, stands-Two, stands-Pick, stands-Call, stands-Group}
+use Rattle.domino_syntax.specs.Parsers.{Parser, first, sees, sees_sign, sees_number, name}
 use Rattle.domino_syntax.specs.ReadingExpressions.{operator_before, a_unary, unary, bracketed, argument, arguments, field, cell, call, behind_name, named, primary, operand}
-use Rattle.domino_syntax.proofs.Exact.{Grammar, Stops, anywhere, Exact, exact_below, exact_as, exact_narrower, exact_one, exact_pure, exact_map, exact_then, exact_next, exact_behind, exact_choice, exact_chain, Nothing, Takes, Image, Then, Either, Runs, stay, Many, Adds, Further, further_to, further_from, By}
-use Rattle.domino_syntax.proofs.OneToken.{IsToken, IsName, IsNumber, name_tokens, some_name, some_number, exact_sign, exact_name, exact_number, unseen_sign, seen_sign, stops_at_sign, sees_itself, Behind, behind_first, Closed, exact_opened, exact_closed}
+use Rattle.domino_syntax.proofs.Exact.{Grammar, Stops, Exact, exact_below, exact_as, exact_one, exact_pure, exact_map, exact_next, exact_behind, exact_choice, exact_chain, Nothing, Image, Then, Either, Runs, Many, Adds, further_to, further_from, By}
+use Rattle.domino_syntax.proofs.OneToken.{IsName, IsNumber, name_tokens, some_name, some_number, exact_sign, exact_name, exact_number, unseen_sign, stops_at_sign, sees_itself, Behind, behind_first, Closed, exact_opened, exact_closed}
 use Rattle.domino_syntax.proofs.ExpressionsStops.{stops_at}
 
 -- the expressions that may stand at a level
@@ -147,7 +146,10 @@ parts_from used [] h = inl (record { text = h.text; is = refl })
 parts_from used (a ∷ args) h =
     let holds = and_parts (stands a 0) (are_arguments args) h.holds in
     inr (record {
-      value = a ∷ []; front = spelled a; back = with_commas (map spelled args); parts = h.text;
+      value = a ∷ [];
+      front = spelled a;
+      back = with_commas (map spelled args);
+      parts = h.text;
       first = record { value = a; form = record { text = refl; holds = holds.0 }; is = refl };
       second = further_from Argument args (a ∷ []) (with_commas (map spelled args)) (more_from (with_commas (map spelled args)) args (record { text = refl; holds = holds.1 }));
     })
@@ -161,16 +163,16 @@ unfolding arguments argument
 exact_arguments {n = n} exact =
     exact_as Arguments
     (exact_choice closes (exact_pure [])
-      (exact_chain (λ _. sees_sign signs.Comma) _ (Adds Argument) (stops_at 0) closes
-        (λ found used args h. omega (arith, ap length h.form.text))
-        (λ found used rest args h. ap (sees_sign signs.Comma) (behind_first (token.Sign signs.Comma) (At 0) used rest h.value h.form) ∙ sees_itself signs.Comma)
-        (λ found. stops_at_sign signs.Comma (stops_at 0) refl)
-        (λ found t stop. unseen_sign signs.Comma closes refl t stop)
-        (stops_at_sign signs.CloseRound (stops_at 0) refl)
-        (exact_map (λ a. [] ++ a ∷ []) exact)
-        (λ found. exact_map (λ a. found ++ a ∷ []) (exact_below n (omega arith) (exact_opened (token.Sign signs.Comma) (exact_sign signs.Comma) exact (some_expression 0)))))
-      (λ used rest args h stop. ap (λ l. closes (first (l ++ rest))) h.text ∙ stop)
-      (λ used rest args h stop. unseen_sign signs.CloseRound sees_expression refl (first (used ++ rest)) (ap (λ l. sees_expression (first (l ++ rest))) h.parts ∙ (ap (λ l. sees_expression (first l)) (append_assoc h.front h.back rest) ∙ at_begins 0 h.front (h.back ++ rest) h.first.value h.first.form))))
+    (exact_chain (λ _. sees_sign signs.Comma) _ (Adds Argument) (stops_at 0) closes
+    (λ found used args h. omega (arith, ap length h.form.text))
+    (λ found used rest args h. ap (sees_sign signs.Comma) (behind_first (token.Sign signs.Comma) (At 0) used rest h.value h.form) ∙ sees_itself signs.Comma)
+    (λ found. stops_at_sign signs.Comma (stops_at 0) refl)
+    (λ found t stop. unseen_sign signs.Comma closes refl t stop)
+    (stops_at_sign signs.CloseRound (stops_at 0) refl)
+    (exact_map (λ a. [] ++ a ∷ []) exact)
+    (λ found. exact_map (λ a. found ++ a ∷ []) (exact_below n (omega arith) (exact_opened (token.Sign signs.Comma) (exact_sign signs.Comma) exact (some_expression 0)))))
+    (λ used rest args h stop. ap (λ l. closes (first (l ++ rest))) h.text ∙ stop)
+    (λ used rest args h stop. unseen_sign signs.CloseRound sees_expression refl (first (used ++ rest)) (ap (λ l. sees_expression (first (l ++ rest))) h.parts ∙ (ap (λ l. sees_expression (first l)) (append_assoc h.front h.back rest) ∙ at_begins 0 h.front (h.back ++ rest) h.first.value h.first.form))))
     parts_to parts_from
 
 -- ---- what begins with a name
@@ -195,19 +197,19 @@ unfolding behind_name field cell call
 exact_behind_name w exact =
     let s = some_name in
     exact_choice (sees_sign signs.Dot)
-      (exact_opened (token.Sign signs.Dot) (exact_sign signs.Dot) (exact_map (expr.Field w) exact_name) (s.0, expr.Field w s.1, record { value = s.1; form = s.2; is = refl }))
-      (exact_choice (sees_sign signs.OpenSquare)
-        (exact_map (expr.Cell w) (exact_bracketed signs.OpenSquare signs.CloseSquare exact refl))
-        (exact_choice (sees_sign signs.OpenRound)
-          (exact_opened (token.Sign signs.OpenRound) (exact_sign signs.OpenRound) (exact_closed (token.Sign signs.CloseRound) (expr.Call w) (exact_arguments exact) (sees_itself signs.CloseRound) (exact_sign signs.CloseRound))
-            (token.Sign signs.CloseRound ∷ [], expr.Call w [], record { inner = []; value = []; text = refl; form = record { text = refl; holds = refl }; is = refl }))
-          (exact_pure (expr.Word w))
-          (λ used rest e h stop. ap (sees_sign signs.OpenRound) (behind_first (token.Sign signs.OpenRound) _ used rest e h) ∙ sees_itself signs.OpenRound)
-          (λ used rest e h stop. unseen_sign signs.OpenRound (stops_at 11) refl (first (used ++ rest)) (nothing_first (expr.Word w) (stops_at 11) used rest e h stop)))
-        (λ used rest e h stop. ap (sees_sign signs.OpenSquare) (image_behind_first (expr.Cell w) (token.Sign signs.OpenSquare) _ used rest e h) ∙ sees_itself signs.OpenSquare)
-        square_others)
-      (λ used rest e h stop. ap (sees_sign signs.Dot) (behind_first (token.Sign signs.Dot) _ used rest e h) ∙ sees_itself signs.Dot)
-      dot_others
+    (exact_opened (token.Sign signs.Dot) (exact_sign signs.Dot) (exact_map (expr.Field w) exact_name) (s.0, expr.Field w s.1, record { value = s.1; form = s.2; is = refl }))
+    (exact_choice (sees_sign signs.OpenSquare)
+    (exact_map (expr.Cell w) (exact_bracketed signs.OpenSquare signs.CloseSquare exact refl))
+    (exact_choice (sees_sign signs.OpenRound)
+    (exact_opened (token.Sign signs.OpenRound) (exact_sign signs.OpenRound) (exact_closed (token.Sign signs.CloseRound) (expr.Call w) (exact_arguments exact) (sees_itself signs.CloseRound) (exact_sign signs.CloseRound))
+    (token.Sign signs.CloseRound ∷ [], expr.Call w [], record { inner = []; value = []; text = refl; form = record { text = refl; holds = refl }; is = refl }))
+    (exact_pure (expr.Word w))
+    (λ used rest e h stop. ap (sees_sign signs.OpenRound) (behind_first (token.Sign signs.OpenRound) _ used rest e h) ∙ sees_itself signs.OpenRound)
+    (λ used rest e h stop. unseen_sign signs.OpenRound (stops_at 11) refl (first (used ++ rest)) (nothing_first (expr.Word w) (stops_at 11) used rest e h stop)))
+    (λ used rest e h stop. ap (sees_sign signs.OpenSquare) (image_behind_first (expr.Cell w) (token.Sign signs.OpenSquare) _ used rest e h) ∙ sees_itself signs.OpenSquare)
+    square_others)
+    (λ used rest e h stop. ap (sees_sign signs.Dot) (behind_first (token.Sign signs.Dot) _ used rest e h) ∙ sees_itself signs.Dot)
+    dot_others
   where
     square_others : (used rest : List Token) (e : Expr) → Either (Calls w) (Nothing (expr.Word w)) used e → stops_at 11 (first rest) ≡ true → sees_sign signs.OpenSquare (first (used ++ rest)) ≡ false
     square_others used rest e (inl h) stop = ap (sees_sign signs.OpenSquare) (behind_first (token.Sign signs.OpenRound) _ used rest e h)
@@ -237,11 +239,11 @@ exact_primary : {n : ℕ} {inner : Parser Expr} → Exact n inner (At 0) (stops_
 unfolding primary
 exact_primary exact =
     exact_choice sees_number (exact_map expr.Number exact_number)
-      (exact_choice (sees_sign signs.OpenRound) (exact_map expr.Group (exact_bracketed signs.OpenRound signs.CloseRound exact refl)) (exact_named exact)
-        (λ used rest e h stop. ap (sees_sign signs.OpenRound) (image_behind_first expr.Group (token.Sign signs.OpenRound) _ used rest e h) ∙ sees_itself signs.OpenRound)
-        (λ used rest e h stop. ap (sees_sign signs.OpenRound) (named_first used rest e h).1))
-      (λ used rest e h stop. ap (λ l. sees_number (first (l ++ rest))) h.form)
-      number_others
+    (exact_choice (sees_sign signs.OpenRound) (exact_map expr.Group (exact_bracketed signs.OpenRound signs.CloseRound exact refl)) (exact_named exact)
+    (λ used rest e h stop. ap (sees_sign signs.OpenRound) (image_behind_first expr.Group (token.Sign signs.OpenRound) _ used rest e h) ∙ sees_itself signs.OpenRound)
+    (λ used rest e h stop. ap (sees_sign signs.OpenRound) (named_first used rest e h).1))
+    (λ used rest e h stop. ap (λ l. sees_number (first (l ++ rest))) h.form)
+    number_others
   where
     number_others : (used rest : List Token) (e : Expr) → Either (Image expr.Group (Bracketed signs.OpenRound signs.CloseRound)) Named used e → stops_at 11 (first rest) ≡ true → sees_number (first (used ++ rest)) ≡ false
     number_others used rest e (inl h) stop = ap sees_number (image_behind_first expr.Group (token.Sign signs.OpenRound) _ used rest e h)
@@ -304,10 +306,10 @@ unfolding operand
 operand_forms below exact =
     let s = some_expression 11 in
     exact_choice (sees a_unary)
-      (exact_behind exact_unary (λ op. exact_map (expr.One op) below) (λ used op h. omega (arith, ap length h)) (λ op. (s.0, expr.One op s.1, record { value = s.1; form = s.2; is = refl })))
-      (exact_primary exact)
-      (λ used rest e h stop. unary_starts used rest e h)
-      primary_others
+    (exact_behind exact_unary (λ op. exact_map (expr.One op) below) (λ used op h. omega (arith, ap length h)) (λ op. (s.0, expr.One op s.1, record { value = s.1; form = s.2; is = refl })))
+    (exact_primary exact)
+    (λ used rest e h stop. unary_starts used rest e h)
+    primary_others
 
 -- ---- these are the expressions of the lowest level
 

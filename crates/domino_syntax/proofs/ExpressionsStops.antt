@@ -1,14 +1,14 @@
 -- Before which next token an expression of a level may end.
-use Rattle.std.proofs.Common.{◌≡◌, ℕ, zero, suc, ◌≤◌, Bool, true, false, not, ◌&&◌, if◌then◌else◌, nat_le, nat_eq, List, ◌∷◌, ◌++◌, Option, Some, None, refl, ap, sym, ◌∙◌, arith}
+use Rattle.std.proofs.Common.{◌≡◌, ℕ, suc, Bool, true, false, not, ◌&&◌, if◌then◌else◌, nat_le, nat_eq, Option, Some, None, refl, ap, sym, arith}
 use Rattle.std.specs.Option.{is_some}
-use Rattle.std.proofs.lemmas.Bool.{and_from, and_parts, eqb-true, ne_eqb, leb-true, leb-false, lt-leb}
+use Rattle.std.proofs.lemmas.Bool.{and_from, and_parts, eqb-true, ne_eqb, leb-false, lt-leb}
 use Rattle.mp5_words.specs.declared.op.Op2.{Op2}
 use Rattle.domino_tree.specs.declared.token.Token.{Token}
 use Rattle.domino_tree.specs.declared.token.Token.TheVariants as token
 use Rattle.domino_tree.specs.declared.token.Sign.{Sign}
 use Rattle.domino_tree.specs.declared.token.Sign.TheVariants as signs
 use Rattle.domino_tree.specs.Grammar.{level}
-use Rattle.domino_syntax.specs.Parsers.{first, sees}
+use Rattle.domino_syntax.specs.Parsers.{sees}
 use Rattle.domino_syntax.specs.ReadingExpressions.{operator_between, of_level, a_binary}
 use Rattle.domino_syntax.proofs.Exact.{Stops}
 

@@ -4,12 +4,9 @@ pub mod Turns
 pub mod Tiers
 pub mod Exact
 pub mod OneToken
-pub mod ExpressionsStops
-pub mod ExpressionsForms
 pub mod Chains
 pub mod Known
 pub mod ExactDeclarations
-pub mod ExactExpressions
 pub mod ExactStatements
 pub mod ExactPrograms
 pub mod WeighLemmas
@@ -18,3 +15,6 @@ pub mod TokenText
 pub mod NamedTokens
 pub mod PrintedText
 pub mod Deciding
+pub mod ExpressionsStops
+pub mod ExpressionsForms
+pub mod ExpressionsLevels

@@ -1,5 +1,5 @@
 -- The parser of expressions at each level, from that one level below.
-use Rattle.std.proofs.Common.{◌≡◌, ◌≤◌, ◌<◌, ◌-◌, ℕ, zero, suc, nat_eq, false, true, if◌then◌else◌, List, Ok, Err, refl, ap, sym, ◌∙◌, arith}
+use Rattle.std.proofs.Common.{◌≡◌, ◌<◌, ◌-◌, ℕ, suc, nat_eq, if◌then◌else◌, List, Ok, Err, ap, ◌∙◌, arith}
 use Rattle.std.proofs.lemmas.Bool.{ne_eqb}
 use Rattle.domino_tree.specs.declared.token.Token.{Token}
 use Rattle.domino_tree.specs.declared.expr.Expr.{Expr}

@@ -1,7 +1,7 @@
 -- The parser of expressions as functions on token lists. A level of operators is read by the levels below it:
 -- the lowest, with none below, are the operators before an expression and the forms without operators; ten
 -- levels of operators between two are above it, and `c ? a : b` above all.
-use Rattle.std.specs.Prelude.{ℕ, zero, suc, ◌-◌, Bool, true, false, if◌then◌else◌, nat_eq, List, [], ◌∷◌, ◌++◌, Option, Some, None, Err}
+use Rattle.std.specs.Prelude.{ℕ, zero, suc, ◌-◌, if◌then◌else◌, nat_eq, List, [], Option, Some, None, Err}
 use Rattle.mp5_words.specs.declared.op.Op1.{Op1}
 use Rattle.mp5_words.specs.declared.op.Op1.TheVariants as op1
 use Rattle.mp5_words.specs.declared.op.Op2.{Op2}

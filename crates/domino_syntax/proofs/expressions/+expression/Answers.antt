@@ -1,4 +1,4 @@
-use Rattle.std.proofs.Common.{◌≡◌, ◌-◌, ◌+◌, suc, true, false, Ok, Err, sym, subst, ◌∙◌, arith}
+use Rattle.std.proofs.Common.{◌≡◌, ◌-◌, ◌+◌, suc, true, false, sym, subst, ◌∙◌, arith}
 use Rattle.domino_tree.specs.declared.token.Sign.TheVariants.{Comma}
 use Rattle.domino_tree.specs.declared.expr.Expr.{Expr}
 use Rattle.domino_syntax.specs.Parsers.{Parser, Reads, first, sees, sees_sign, adding}
