@@ -1,14 +1,12 @@
 -- How the tokens of a text come from its front and what follows it, and that its name tokens are names.
-use Rattle.std.proofs.Common.{◌≡◌, ℕ, zero, suc, ◌+◌, ◌*◌, ◌<◌, ◌≤◌, nat_eq, nat_le, Bool, true, false, ◌&&◌, ◌||◌, if◌then◌else◌, List, [], ◌∷◌, ◌++◌, length, take, drop, get_or, codes, pos, w32, to_z, of_z, IfSome, Option, Some, None, refl, sym, ap, subst, ◌∙◌, append_assoc, length-drop, one-add, arith}
+use Rattle.std.proofs.Common.{◌≡◌, ℕ, zero, suc, ◌-◌, ◌<◌, ◌≤◌, nat_eq, nat_le, Bool, true, false, ◌||◌, if◌then◌else◌, List, [], ◌∷◌, ◌++◌, length, take, drop, codes, pos, w32, to_z, of_z, Option, Some, None, Result, Ok, Err, IfOk, IfSome, refl, sym, ap, subst, ◌∙◌, append_assoc, length-drop, one-add, arith}
 use Rattle.std.proofs.Math.Nat.{mod-eq_of_lt}
-use Rattle.std.proofs.lemmas.Bool.{and_parts, le-leb, leb-true}
+use Rattle.std.proofs.lemmas.Bool.{le-leb}
 use Rattle.std.proofs.lemmas.Int.{of_z-to_z}
-use Rattle.std.proofs.lemmas.Int.Digits.{digits_value_more}
-use Rattle.std.proofs.lemmas.Str.{digit_value_digit}
+use Rattle.std.proofs.lemmas.List.{append-nil}
 use Rattle.std.specs.Char.{is_ascii_alphabetic, is_ascii_digit}
-use Rattle.std.specs.Int.{IsInRange, is_in_range, int_wrap}
+use Rattle.std.specs.Int.{is_in_range, int_wrap}
 use Rattle.std.specs.List.{list_all, prefix_len}
-use Rattle.std.specs.Option.{option_map, option_and_then}
 use Rattle.std.specs.Str.{bytes_eq}
 use Rattle.std.specs.Str.Parse.{digits_value}
 use Rattle.mp5_words.specs.Words.{word}
@@ -17,51 +15,42 @@ use Rattle.domino_tree.specs.declared.token.Token.{Token}
 use Rattle.domino_tree.specs.declared.token.Token.TheVariants as token
 use Rattle.domino_tree.specs.declared.token.Keyword.TheVariants as keyword
 use Rattle.domino_tree.specs.Grammar.{is_word_byte, is_reserved, is_name}
-use Rattle.domino_syntax.specs.Tokens.{is_white, is_decimal, number, name, word_token, sign_at, front, followed, lexed, tokens, is_token}
+use Rattle.domino_syntax.specs.declared.lex.Piece.{Piece}
+use Rattle.domino_syntax.specs.declared.lex.Piece.TheVariants as piece_of
+use Rattle.domino_syntax.specs.Tokens.{bounded, is_decimal, is_hexadecimal, number, name, word_token, word_at, piece_from, sign_of_one, sign_of_two, short_sign, long_sign, sign_at, closing, comment_to, line_behind, slash_at, hash_at, is_white, piece, with_front, followed, lexed, tokens, placed, cut, is_token}
 
 -- ---- numbers
-
-digit_is : (d : ℕ) → is_ascii_digit d ≡ true → IsInRange 48 57 d
-digit_is d e = let both = and_parts (nat_le 48 d) (nat_le d 57) e in (leb-true 48 d both.0, leb-true d 57 both.1)
-
--- a digit's byte
-pub digit_range : (ds : List ℕ) (i : ℕ) → list_all is_ascii_digit ds ≡ true → i < length ds → IsInRange 48 57 (get_or ds i 0)
-digit_range [] i e h = absurd (omega arith)
-digit_range (d ∷ ds) zero e h = digit_is d (and_parts (is_ascii_digit d) (list_all is_ascii_digit ds) e).0
-digit_range (d ∷ ds) (suc i) e h = digit_range ds i (and_parts (is_ascii_digit d) (list_all is_ascii_digit ds) e).1 (omega arith)
-
--- one more digit
-pub digit_step : (ds : List ℕ) (i : ℕ) → list_all is_ascii_digit ds ≡ true → i < length ds → digits_value 10 (take (i + 1) ds) + 48 ≡ digits_value 10 (take i ds) * 10 + get_or ds i 0
-digit_step ds i e h = omega (arith, digits_value_more 10 ds i h, digit_value_digit (get_or ds i 0) (digit_range ds i e h))
 
 word_small : (n : ℕ) → n < 4294967296 → int_wrap w32 (pos n) ≡ to_z w32 n
 unfolding int_wrap
 word_small n h = ap (to_z w32) (mod-eq_of_lt h)
 
 -- a number of at most 32 bits
-pub number_of : (w : List ℕ) (n : ℕ) → n < 4294967296 → is_decimal w ≡ true → n ≡ digits_value 10 w → Some (token.Number (to_z w32 (of_z w32 (to_z w32 n)))) ≡ number w
-unfolding number
-number_of w n fits h e =
-    let small : nat_le (digits_value 10 w) 4294967295 ≡ true = le-leb _ _ (omega arith) in
-    rw (h, small, ← e) (ap (λ z. Some (token.Number z)) (ap (to_z w32) (of_z-to_z w32 n fits) ∙ sym (word_small n fits)))
+pub bounded_of : (m n : ℕ) → n < 4294967296 → n ≡ m → Some (token.Number (to_z w32 (of_z w32 (to_z w32 n)))) ≡ bounded m
+unfolding bounded
+bounded_of m n fits e =
+    let small : nat_le m 4294967295 ≡ true = le-leb _ _ (omega arith) in
+    rw (small, ← e) (ap (λ z. Some (token.Number z)) (ap (to_z w32) (of_z-to_z w32 n fits) ∙ sym (word_small n fits)))
 
--- ---- options
+-- ---- pieces
 
-IfSome-map : {A B : Type 0} (f : A → B) (P : A → Type 0) (Q : B → Type 0) (o : Option A) → ((x : A) → P x → Q (f x)) → IfSome o P → IfSome (option_map f o) Q
-IfSome-map f P Q None h p = tt
-IfSome-map f P Q (Some x) h p = h x p
+-- a piece that is there has a byte, and a token in it is one
+abbrev pub IsPiece : Piece → Type 0
+IsPiece piece_of.End = Unit {0}
+IsPiece (piece_of.Skip n) = 1 ≤ n
+IsPiece (piece_of.Token t n) = (1 ≤ n) × (is_token t ≡ true)
+IsPiece piece_of.Bad = Unit {0}
 
-IfSome-then : {A B : Type 0} (f : A → Option B) (P : A → Type 0) (Q : B → Type 0) (o : Option A) → ((x : A) → P x → IfSome (f x) Q) → IfSome o P → IfSome (option_and_then f o) Q
-IfSome-then f P Q None h p = tt
-IfSome-then f P Q (Some x) h p = h x p
+piece_if : (c : Bool) (p q : Piece) → (c ≡ true → IsPiece p) → (c ≡ false → IsPiece q) → IsPiece (if c then p else q)
+piece_if true p q there other = there refl
+piece_if false p q there other = other refl
 
-IfSome-if : {A : Type 0} (P : A → Type 0) (b : Bool) (x y : Option A) → (b ≡ true → IfSome x P) → (b ≡ false → IfSome y P) → IfSome (if b then x else y) P
-IfSome-if P true x y p q = p refl
-IfSome-if P false x y p q = q refl
+abbrev IsToken : Token → Type 0
+IsToken t = is_token t ≡ true
 
-then_same : {A B : Type 0} (P : A → Type 0) (f g : A → Option B) (o : Option A) → ((x : A) → P x → f x ≡ g x) → IfSome o P → option_and_then f o ≡ option_and_then g o
-then_same P f g None h p = refl
-then_same P f g (Some x) h p = h x p
+some_if : (c : Bool) (x y : Option Token) → (c ≡ true → IfSome x IsToken) → (c ≡ false → IfSome y IsToken) → IfSome (if c then x else y) IsToken
+some_if true x y there other = there refl
+some_if false x y there other = other refl
 
 -- ---- words
 
@@ -97,88 +86,163 @@ name_token : (b : ℕ) (bs : List ℕ) → (is_ascii_alphabetic b || nat_eq b 95
 unfolding name
 name_token b bs first rest = picked (bytes_eq (b ∷ bs) (codes "struct")) (bytes_eq (b ∷ bs) (codes "int")) (bytes_eq (b ∷ bs) (codes "void")) (bytes_eq (b ∷ bs) (codes "if")) (bytes_eq (b ∷ bs) (codes "else")) (b ∷ bs) (name_is b bs first rest)
 
-abbrev IsToken : Token → Type 0
-IsToken t = is_token t ≡ true
+bounded_token : (n : ℕ) → IfSome (bounded n) IsToken
+unfolding bounded
+bounded_token n = some_if (nat_le n 4294967295) (Some (token.Number (word (pos n)))) None (λ _. refl) (λ _. tt)
 
 number_token : (w : List ℕ) → IfSome (number w) IsToken
-unfolding number
-number_token w = IfSome-if IsToken (is_decimal w && nat_le (digits_value 10 w) 4294967295) (Some (token.Number (word (pos (digits_value 10 w))))) None (λ _. refl) (λ _. tt)
+number_token w =
+    some_if (is_decimal w) (bounded (digits_value 10 w)) (if is_hexadecimal w then bounded (digits_value 16 (drop 2 w)) else None) (λ _. bounded_token (digits_value 10 w)) (λ _. some_if (is_hexadecimal w) (bounded (digits_value 16 (drop 2 w))) None (λ _. bounded_token (digits_value 16 (drop 2 w))) (λ _. tt))
 
 word_token_is : (b : ℕ) (bs : List ℕ) → is_word_byte b ≡ true → list_all is_word_byte bs ≡ true → IfSome (word_token (b ∷ bs)) IsToken
 word_token_is b bs first rest =
-    IfSome-if IsToken (is_ascii_digit b) (number (b ∷ bs)) (Some (name (b ∷ bs))) (λ _. number_token (b ∷ bs)) (λ h. name_token b bs (begins (is_in_range 48 57 b) (is_in_range 65 90 b) (is_in_range 97 122 b) (nat_eq b 95) h first) rest)
+    some_if (is_ascii_digit b) (number (b ∷ bs)) (Some (name (b ∷ bs))) (λ _. number_token (b ∷ bs)) (λ h. name_token b bs (begins (is_in_range 48 57 b) (is_in_range 65 90 b) (is_in_range 97 122 b) (nat_eq b 95) h first) rest)
+
+piece_from_is : (n : ℕ) (o : Option Token) → 1 ≤ n → IfSome o IsToken → IsPiece (piece_from n o)
+piece_from_is n None moves is = tt
+piece_from_is n (Some t) moves is = (moves, is)
+
+word_is : (b : ℕ) (bs : List ℕ) → is_word_byte b ≡ true → IsPiece (piece_from (prefix_len is_word_byte (b ∷ bs)) (word_token (word_at (b ∷ bs))))
+word_is b bs h =
+    let moves : 1 ≤ prefix_len is_word_byte (b ∷ bs) = rw h (omega arith) in
+    piece_from_is (prefix_len is_word_byte (b ∷ bs)) (word_token (word_at (b ∷ bs))) moves (rw (taken is_word_byte b bs h) (word_token_is b (take (prefix_len is_word_byte bs) bs) h (prefix_passes is_word_byte bs)))
+
+-- ---- signs, comments and `#`
+
+short_is : (o : Option Sign) → IsPiece (short_sign o)
+short_is None = tt
+short_is (Some s) = (omega arith, refl)
+
+long_is : (o short : Option Sign) → IsPiece (long_sign o short)
+long_is None short = short_is short
+long_is (Some s) short = (omega arith, refl)
+
+sign_is : (z : List ℕ) → IsPiece (sign_at z)
+sign_is [] = tt
+sign_is (a ∷ []) = short_is (sign_of_one a)
+sign_is (a ∷ b ∷ bs) = long_is (sign_of_two a b) (sign_of_one a)
+
+comment_is : (o : Option ℕ) → IsPiece (comment_to o)
+comment_is None = tt
+comment_is (Some end) = omega arith
+
+slash_is : (z : List ℕ) → IsPiece (slash_at z)
+slash_is [] = tt
+slash_is (a ∷ []) = sign_is (a ∷ [])
+slash_is (a ∷ b ∷ bs) =
+    piece_if (nat_eq b 42) (comment_to (closing 0 bs)) (if nat_eq b 47 then line_behind 2 bs else sign_at (a ∷ b ∷ bs)) (λ _. comment_is (closing 0 bs)) (λ _. piece_if (nat_eq b 47) (line_behind 2 bs) (sign_at (a ∷ b ∷ bs)) (λ _. omega arith) (λ _. sign_is (a ∷ b ∷ bs)))
+
+hash_is : (z : List ℕ) → IsPiece (hash_at z)
+hash_is [] = tt
+hash_is (a ∷ bs) =
+    piece_if (bytes_eq (word_at bs) (codes "define")) (piece_of.Token token.Define 7) (if bytes_eq (word_at bs) (codes "include") then line_behind 1 bs else piece_of.Bad) (λ _. (omega arith, refl)) (λ _. piece_if (bytes_eq (word_at bs) (codes "include")) (line_behind 1 bs) piece_of.Bad (λ _. omega arith) (λ _. tt))
 
 -- ---- the front
 
-abbrev IsFront : Token × ℕ → Type 0
-IsFront t = (1 ≤ t.1) × (is_token t.0 ≡ true)
-
-word_is : (b : ℕ) (bs : List ℕ) → is_word_byte b ≡ true → IfSome (option_map (λ t. (t, prefix_len is_word_byte (b ∷ bs))) (word_token (take (prefix_len is_word_byte (b ∷ bs)) (b ∷ bs)))) IsFront
-word_is b bs h =
-    let moves : 1 ≤ prefix_len is_word_byte (b ∷ bs) = rw h (omega arith) in
-    IfSome-map (λ t. (t, prefix_len is_word_byte (b ∷ bs))) IsToken IsFront (word_token (take (prefix_len is_word_byte (b ∷ bs)) (b ∷ bs))) (λ t p. (moves, p)) (rw (taken is_word_byte b bs h) (word_token_is b (take (prefix_len is_word_byte bs) bs) h (prefix_passes is_word_byte bs)))
-
-sign_is : (o : Option Sign) → IfSome (option_map (λ s. (token.Sign s, 1)) o) IsFront
-sign_is None = tt
-sign_is (Some s) = (omega arith, refl)
-
--- a token at the front has a byte, and as a name it is one
-front_is : (z : List ℕ) → IfSome (front z) IsFront
-front_is [] = tt
-front_is (b ∷ bs) = IfSome-if IsFront (is_word_byte b) _ _ (word_is b bs) (λ _. sign_is (sign_at b bs))
+-- the piece at the front is one
+pub piece_is : (z : List ℕ) → IsPiece (piece z)
+unfolding piece
+piece_is [] = tt
+piece_is (b ∷ bs) =
+    let z = b ∷ bs in
+    let signs = if nat_eq b 47 then slash_at z else sign_at z in
+    let hashes = if nat_eq b 35 then hash_at z else signs in
+    let words = piece_from (prefix_len is_word_byte z) (word_token (word_at z)) in
+    piece_if (is_white b) (piece_of.Skip 1) (if is_word_byte b then words else hashes) (λ _. omega arith) (λ _. piece_if (is_word_byte b) words hashes (word_is b bs) (λ _. piece_if (nat_eq b 35) (hash_at z) signs (λ _. hash_is z) (λ _. piece_if (nat_eq b 47) (slash_at z) (sign_at z) (λ _. slash_is z) (λ _. sign_is z))))
 
 -- ---- the fuel
 
-length-drop-le : (b n k : ℕ) (bs : List ℕ) → length (b ∷ bs) ≤ suc n → 1 ≤ k → length (drop k (b ∷ bs)) ≤ n
+pub length-drop-le : (b n k : ℕ) (bs : List ℕ) → length (b ∷ bs) ≤ suc n → 1 ≤ k → length (drop k (b ∷ bs)) ≤ n
 length-drop-le b n k bs h moves = rw (length-drop k (b ∷ bs)) (omega arith)
+
+-- what gives the same of all that may follow a piece gives the same
+followed_same : (f g : List ℕ → Result (List Token) (List ℕ)) (z : List ℕ) (p : Piece) → ((k : ℕ) → 1 ≤ k → f (drop k z) ≡ g (drop k z)) → IsPiece p → followed f z p ≡ followed g z p
+followed_same f g z piece_of.End same is = refl
+followed_same f g z (piece_of.Skip k) same is = same k is
+followed_same f g z (piece_of.Token t k) same is = ap (with_front (t ∷ [])) (same k is.0)
+followed_same f g z piece_of.Bad same is = refl
+
+piece_none : piece [] ≡ piece_of.End
+unfolding piece
+piece_none = refl
+
+lexed_none : (n : ℕ) → lexed n [] ≡ Ok []
+unfolding lexed
+lexed_none zero = rw piece_none refl
+lexed_none (suc n) = rw piece_none refl
+
+-- an empty text has no tokens
+pub tokens_none : tokens [] ≡ Ok []
+tokens_none = lexed_none zero
 
 -- more fuel than a text has bytes changes nothing
 lexed_same : (n m : ℕ) (z : List ℕ) → length z ≤ n → length z ≤ m → lexed n z ≡ lexed m z
 unfolding lexed
-lexed_same zero m [] p q = refl
+lexed_same n m [] p q = lexed_none n ∙ sym (lexed_none m)
 lexed_same zero m (b ∷ bs) p q = absurd (omega arith)
-lexed_same (suc n) m [] p q = refl
 lexed_same (suc n) zero (b ∷ bs) p q = absurd (omega arith)
 lexed_same (suc n) (suc m) (b ∷ bs) p q =
-    let later = lexed_same n m bs (omega arith) (omega arith) in
-    let goes = then_same IsFront (followed (lexed n) (b ∷ bs)) (followed (lexed m) (b ∷ bs)) (front (b ∷ bs)) (λ t h. ap (λ o. option_map (λ ts. t.0 ∷ ts) o) (lexed_same n m (drop t.1 (b ∷ bs)) (length-drop-le b n t.1 bs p h.0) (length-drop-le b m t.1 bs q h.0))) (front_is (b ∷ bs)) in
-    rw (later, goes)
+    followed_same (lexed n) (lexed m) (b ∷ bs) (piece (b ∷ bs)) (λ k moves. lexed_same n m (drop k (b ∷ bs)) (length-drop-le b n k bs p moves) (length-drop-le b m k bs q moves)) (piece_is (b ∷ bs))
 
 -- ---- a step
 
--- the token at the front comes first
-tokens_front : (b : ℕ) (bs : List ℕ) (t : Token × ℕ) → is_white b ≡ false → front (b ∷ bs) ≡ Some t → tokens (b ∷ bs) ≡ option_map (λ ts. t.0 ∷ ts) (tokens (drop t.1 (b ∷ bs)))
+-- the tokens of a text from the piece at its front
+pub tokens_step : (z : List ℕ) → tokens z ≡ followed tokens z (piece z)
 unfolding lexed
-tokens_front b bs t h e =
-    let P : Option (Token × ℕ) → Type 0 = λ o. IfSome o IsFront in
-    let moves : IsFront t = subst P e (front_is (b ∷ bs)) in
-    let fits = length-drop-le b (length bs) t.1 bs (omega arith) moves.0 in
-    rw (h, e) (ap (λ o. option_map (λ ts. t.0 ∷ ts) o) (lexed_same (length bs) (length (drop t.1 (b ∷ bs))) (drop t.1 (b ∷ bs)) fits (omega arith)))
+tokens_step [] = rw piece_none refl
+tokens_step (b ∷ bs) =
+    followed_same (lexed (length bs)) tokens (b ∷ bs) (piece (b ∷ bs)) (λ k moves. lexed_same (length bs) (length (drop k (b ∷ bs))) (drop k (b ∷ bs)) (length-drop-le b (length bs) k bs (omega arith) moves) (omega arith)) (piece_is (b ∷ bs))
 
-joined : (before : List Token) (t : Token) (o : Option (List Token)) → option_map (λ ts. (before ++ (t ∷ [])) ++ ts) o ≡ option_map (λ ts. before ++ ts) (option_map (λ ts. t ∷ ts) o)
-joined before t None = refl
-joined before t (Some ts) = ap (λ ts. Some ts) (append_assoc before (t ∷ []) ts)
+-- the same from a piece that the one at the front is
+pub stepped : (z : List ℕ) (p : Piece) → p ≡ piece z → tokens z ≡ followed tokens z p
+stepped z p e = tokens_step z ∙ ap (followed tokens z) (sym e)
 
--- the tokens so far and those of the rest are the same once the front has been taken
-pub front_taken : (z : List ℕ) (before : List Token) (t : Token) (n : ℕ) → 1 ≤ length z → is_white (get_or z 0 0) ≡ false → front z ≡ Some (t, n) → option_map (λ ts. (before ++ (t ∷ [])) ++ ts) (tokens (drop n z)) ≡ option_map (λ ts. before ++ ts) (tokens z)
-front_taken [] before t n some h e = absurd (omega arith)
-front_taken (b ∷ bs) before t n some h e = joined before t (tokens (drop n (b ∷ bs))) ∙ sym (ap (λ o. option_map (λ ts. before ++ ts) o) (tokens_front b bs (t, n) h e))
+joined : (before : List Token) (t : Token) (r : Result (List Token) (List ℕ)) → with_front (before ++ (t ∷ [])) r ≡ with_front before (with_front (t ∷ []) r)
+joined before t (Ok ts) = ap (λ ts. Ok ts) (append_assoc before (t ∷ []) ts)
+joined before t (Err rest) = refl
+
+-- white space and comments give no token
+pub skipped : (z : List ℕ) (before : List Token) (n : ℕ) → piece_of.Skip n ≡ piece z → with_front before (tokens (drop n z)) ≡ with_front before (tokens z)
+skipped z before n e = ap (with_front before) (sym (stepped z (piece_of.Skip n) e))
+
+-- the tokens so far and those of the rest are the same once the token at the front has been taken
+pub token_taken : (z : List ℕ) (before : List Token) (t : Token) (n : ℕ) → piece_of.Token t n ≡ piece z → with_front (before ++ (t ∷ [])) (tokens (drop n z)) ≡ with_front before (tokens z)
+token_taken z before t n e = joined before t (tokens (drop n z)) ∙ ap (with_front before) (sym (stepped z (piece_of.Token t n) e))
+
+-- at the end the tokens so far are all
+pub ended : (text z : List ℕ) (before : List Token) → piece_of.End ≡ piece z → with_front before (tokens z) ≡ tokens text → cut text ≡ Ok before
+ended text z before e h = ap (placed text) (sym h ∙ ap (with_front before) (stepped z piece_of.End e)) ∙ ap (λ ts. Ok ts) (append-nil before)
+
+-- where no piece begins is the place
+pub stopped : (text z : List ℕ) (before : List Token) → piece_of.Bad ≡ piece z → with_front before (tokens z) ≡ tokens text → cut text ≡ Err (length text - length z)
+stopped text z before e h = ap (placed text) (sym h ∙ ap (with_front before) (stepped z piece_of.Bad e))
 
 -- ---- names
 
 abbrev AreTokens : List Token → Type 0
 AreTokens ts = list_all is_token ts ≡ true
 
-lexed_is : (n : ℕ) (z : List ℕ) → IfSome (lexed n z) AreTokens
+fronted : (t : Token) (r : Result (List Token) (List ℕ)) → is_token t ≡ true → IfOk r AreTokens → IfOk (with_front (t ∷ []) r) AreTokens
+fronted t (Ok ts) is later = rw (is, later) refl
+fronted t (Err rest) is later = tt
+
+followed_is : (f : List ℕ → Result (List Token) (List ℕ)) (z : List ℕ) (p : Piece) → ((rest : List ℕ) → IfOk (f rest) AreTokens) → IsPiece p → IfOk (followed f z p) AreTokens
+followed_is f z piece_of.End later is = refl
+followed_is f z (piece_of.Skip n) later is = later (drop n z)
+followed_is f z (piece_of.Token t n) later is = fronted t (f (drop n z)) is.1 (later (drop n z))
+followed_is f z piece_of.Bad later is = tt
+
+lexed_is : (n : ℕ) (z : List ℕ) → IfOk (lexed n z) AreTokens
 unfolding lexed
-lexed_is zero [] = refl
-lexed_is zero (b ∷ bs) = tt
-lexed_is (suc n) [] = refl
-lexed_is (suc n) (b ∷ bs) =
-    IfSome-if AreTokens (is_white b) (lexed n bs) (option_and_then (followed (lexed n) (b ∷ bs)) (front (b ∷ bs))) (λ _. lexed_is n bs) (λ _. IfSome-then (followed (lexed n) (b ∷ bs)) IsFront AreTokens (front (b ∷ bs)) (λ t h. IfSome-map (λ ts. t.0 ∷ ts) AreTokens AreTokens (lexed n (drop t.1 (b ∷ bs))) (λ ts later. rw (h.1, later) refl) (lexed_is n (drop t.1 (b ∷ bs)))) (front_is (b ∷ bs)))
+lexed_is zero z = followed_is (λ rest. Err rest) z (piece z) (λ rest. tt) (piece_is z)
+lexed_is (suc n) z = followed_is (lexed n) z (piece z) (lexed_is n) (piece_is z)
+
+placed_is : (text : List ℕ) (r : Result (List Token) (List ℕ)) → IfOk r AreTokens → IfOk (placed text r) AreTokens
+placed_is text (Ok ts) is = is
+placed_is text (Err rest) is = tt
 
 -- the name tokens of a text are names
-pub tokens_are_names : (text : List ℕ) (ts : List Token) → tokens text ≡ Some ts → list_all is_token ts ≡ true
+pub tokens_are_names : (text : List ℕ) (ts : List Token) → cut text ≡ Ok ts → list_all is_token ts ≡ true
 tokens_are_names text ts e =
-    let P : Option (List Token) → Type 0 = λ o. IfSome o AreTokens in
-    subst P e (lexed_is (length text) text)
+    let P : Result (List Token) ℕ → Type 0 = λ r. IfOk r AreTokens in
+    subst P e (placed_is text (tokens text) (lexed_is (length text) text))

@@ -1,7 +1,13 @@
 pub use Rattle.mp5_words.specs.Words
 pub use Rattle.domino_tree.specs.Grammar
 pub use Rattle.domino_tree.specs.Derives
-pub use Rattle.domino_tree.specs.Meaning
 pub mod Tokens
-pub mod ThinText
-pub mod Reading
+pub mod Cutting
+pub mod Pieces
+pub mod Parsers
+pub mod ReadingExpressions
+pub mod ReadingPrograms
+pub mod Weighing
+pub mod Printing
+pub mod Stuck
+pub mod ProgramText

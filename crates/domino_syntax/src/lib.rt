@@ -4,11 +4,19 @@
 //! text has two, and that a text is refused only where it has none.
 #![tactic(auto)]
 
+mod declarations;
+mod expressions;
 mod fault;
 mod lex;
+mod operators;
 mod parse;
 mod read;
 mod reader;
+mod statements;
+mod weigh;
 
 pub use fault::TextFault;
 pub use read::read_program;
+
+#[cfg(test)]
+mod tests;

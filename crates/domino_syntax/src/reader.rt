@@ -1,18 +1,48 @@
 //! A cursor over the tokens of a text.
 
-ghost use Rattle.std.specs.Prelude.{◌≡◌, length, drop, if◌then◌else◌, IfOk};
-ghost use Rattle.domino_syntax.specs.Reading as spec;
-ghost use Rattle.domino_syntax.specs.Reading.{Reads};
+ghost use Rattle.std.specs.Prelude.{◌≡◌, length, IfOk};
+ghost use Rattle.domino_syntax.specs.Parsers as spec;
+ghost use Rattle.domino_syntax.specs.Parsers.{Reads, first};
+ghost use Rattle.domino_syntax.specs.ReadingExpressions as expressions;
 
-use crate::fault::TextFault;
+use crate::operators::{operator_before, operator_of_level};
 use domino_tree::{Keyword, Sign, Token};
-use mp5_words::{Name, Op2};
-use std::alloc::{AllocError, Global};
+use mp5_words::{Name, Op1, Op2};
+use std::alloc::{AllocError, AllocFailed, Global};
 use std::marker::Model;
+
+/// Why nothing is read.
+#[derive(Debug, Drop)]
+pub(crate) enum Stop {
+    /// No form of the grammar goes on with the next token.
+    Syntax,
+    /// Memory ran out.
+    NoMemory,
+}
+
+impl From<AllocError> for Stop {
+    ghost use Rattle.domino_syntax.specs.declared.reader.Stop.TheVariants.{NoMemory};
+
+    ghost from_gives = { λ _ e. e ≡ NoMemory };
+
+    fn from(_error: AllocError) -> Stop {
+        Stop::NoMemory
+    }
+}
+
+impl<T: Drop> From<AllocFailed<T>> for Stop {
+    ghost use Rattle.domino_syntax.specs.declared.reader.Stop.TheVariants.{NoMemory};
+
+    ghost from_gives = { λ _ e. e ≡ NoMemory };
+
+    fn from(_error: AllocFailed<T>) -> Stop {
+        Stop::NoMemory
+    }
+}
 
 /// The tokens that are left to read, seen as a list.
 #[derive(Drop)]
-pub struct Reader<'a> {
+pub(crate) struct Reader<'a> {
     rest: &'a [Token],
 }
 
@@ -59,7 +89,7 @@ impl<'a> Reader<'a> {
     }
 
     pub fn sees_sign(&self, sign: Sign) -> bool
-        ensures { result ≡ spec.sees_sign sign self.now }
+        ensures { result ≡ spec.sees_sign sign (first self.now) }
     {
         match self.rest {
             [Token::Sign(next), ..] => is_same_sign(*next, sign),
@@ -68,7 +98,7 @@ impl<'a> Reader<'a> {
     }
 
     pub fn sees_keyword(&self, keyword: Keyword) -> bool
-        ensures { result ≡ spec.sees_keyword keyword self.now }
+        ensures { result ≡ spec.sees_keyword keyword (first self.now) }
     {
         match self.rest {
             [Token::Keyword(next), ..] => is_same_keyword(*next, keyword),
@@ -76,8 +106,17 @@ impl<'a> Reader<'a> {
         }
     }
 
+    pub fn sees_define(&self) -> bool
+        ensures { result ≡ spec.sees_define (first self.now) }
+    {
+        match self.rest {
+            [Token::Define, ..] => true,
+            _ => false,
+        }
+    }
+
     pub fn sees_name(&self) -> bool
-        ensures { result ≡ spec.sees_name self.now }
+        ensures { result ≡ spec.sees_name (first self.now) }
     {
         match self.rest {
             [Token::Name(_), ..] => true,
@@ -85,76 +124,76 @@ impl<'a> Reader<'a> {
         }
     }
 
-    /// The operator that comes next.
-    pub fn next_operator(&self) -> Option<Op2>
-        ensures { result ≡ spec.next_operator self.now }
+    pub fn sees_number(&self) -> bool
+        ensures { result ≡ spec.sees_number (first self.now) }
     {
         match self.rest {
-            [Token::Sign(Sign::Plus), ..] => Some(Op2::Add),
-            [Token::Sign(Sign::Minus), ..] => Some(Op2::Sub),
-            _ => None,
+            [Token::Number(_), ..] => true,
+            _ => false,
         }
     }
 
-    /// Takes the next token.
-    pub fn skip(&mut self)
-        ensures { self.new ≡ drop 1 self.old }
-    {
-        if let [_, rest @ ..] = self.rest {
-            self.rest = rest;
-        }
-    }
-
-    /// Takes a number, if it comes next.
-    #[tactic(auto, unfolding(crate::specs::Reading::eat_number))]
-    pub fn eat_number(&mut self) -> Option<i32>
-        ensures { spec.eat_number self.old ≡ Ok (result, self.new) }
+    /// Whether an operator before an expression comes next.
+    pub fn sees_unary(&self) -> bool
+        ensures { result ≡ spec.sees expressions.a_unary (first self.now) }
     {
         match self.rest {
-            [Token::Number(number), rest @ ..] => {
-                self.rest = rest;
-                Some(*number)
-            }
-            _ => None,
+            [Token::Sign(next), ..] => operator_before(*next).is_some(),
+            _ => false,
         }
     }
 
-    /// Takes the sign, if it comes next.
-    #[tactic(auto, unfolding(crate::specs::Reading::eat_sign))]
-    pub fn eat_sign(&mut self, sign: Sign) -> bool
-        ensures { spec.eat_sign sign self.old ≡ Ok (result, self.new) }
+    /// Whether an operator of this level comes next.
+    pub fn sees_binary(&self, level: usize) -> bool
+        ensures { result ≡ spec.sees (expressions.a_binary level) (first self.now) }
     {
-        let found = self.sees_sign(sign);
-        if found {
-            self.skip();
+        match self.rest {
+            [Token::Sign(next), ..] => operator_of_level(level, *next).is_some(),
+            _ => false,
         }
-        found
     }
 
-    #[tactic(auto, unfolding(crate::specs::Reading::sign))]
-    pub fn sign(&mut self, sign: Sign) -> Result<(), TextFault>
+    #[tactic(auto, unfolding(crate::specs::Parsers::sign))]
+    pub fn sign(&mut self, sign: Sign) -> Result<(), Stop>
         ensures { Reads (spec.sign sign self.old) result self.new }
     {
-        if !self.sees_sign(sign) {
-            return Err(TextFault::NotYet);
+        match self.rest {
+            [Token::Sign(next), rest @ ..] if is_same_sign(*next, sign) => {
+                self.rest = rest;
+                Ok(())
+            }
+            _ => Err(Stop::Syntax),
         }
-        self.skip();
-        Ok(())
     }
 
-    #[tactic(auto, unfolding(crate::specs::Reading::keyword))]
-    pub fn keyword(&mut self, keyword: Keyword) -> Result<(), TextFault>
+    #[tactic(auto, unfolding(crate::specs::Parsers::keyword))]
+    pub fn keyword(&mut self, keyword: Keyword) -> Result<(), Stop>
         ensures { Reads (spec.keyword keyword self.old) result self.new }
     {
-        if !self.sees_keyword(keyword) {
-            return Err(TextFault::NotYet);
+        match self.rest {
+            [Token::Keyword(next), rest @ ..] if is_same_keyword(*next, keyword) => {
+                self.rest = rest;
+                Ok(())
+            }
+            _ => Err(Stop::Syntax),
         }
-        self.skip();
-        Ok(())
     }
 
-    #[tactic(auto, unfolding(crate::specs::Reading::name))]
-    pub fn name(&mut self, alloc: Global) -> Result<Name, TextFault>
+    #[tactic(auto, unfolding(crate::specs::Parsers::define))]
+    pub fn define(&mut self) -> Result<(), Stop>
+        ensures { Reads (spec.define self.old) result self.new }
+    {
+        match self.rest {
+            [Token::Define, rest @ ..] => {
+                self.rest = rest;
+                Ok(())
+            }
+            _ => Err(Stop::Syntax),
+        }
+    }
+
+    #[tactic(auto, unfolding(crate::specs::Parsers::name))]
+    pub fn name(&mut self, alloc: Global) -> Result<Name, Stop>
         ensures { Reads (spec.name self.old) result self.new }
     {
         match self.rest {
@@ -163,19 +202,65 @@ impl<'a> Reader<'a> {
                 self.rest = rest;
                 Ok(name)
             }
-            _ => Err(TextFault::NotYet),
+            _ => Err(Stop::Syntax),
+        }
+    }
+
+    #[tactic(auto, unfolding(crate::specs::Parsers::number))]
+    pub fn number(&mut self) -> Result<i32, Stop>
+        ensures { Reads (spec.number self.old) result self.new }
+    {
+        match self.rest {
+            [Token::Number(number), rest @ ..] => {
+                self.rest = rest;
+                Ok(*number)
+            }
+            _ => Err(Stop::Syntax),
+        }
+    }
+
+    /// An operator before an expression.
+    #[tactic(auto, unfolding(crate::specs::ReadingExpressions::unary))]
+    pub fn unary(&mut self) -> Result<Op1, Stop>
+        ensures { Reads (expressions.unary self.old) result self.new }
+    {
+        match self.rest {
+            [Token::Sign(next), rest @ ..] => match operator_before(*next) {
+                Some(op) => {
+                    self.rest = rest;
+                    Ok(op)
+                }
+                None => Err(Stop::Syntax),
+            },
+            _ => Err(Stop::Syntax),
+        }
+    }
+
+    /// An operator of this level.
+    #[tactic(auto, unfolding(crate::specs::ReadingExpressions::binary))]
+    pub fn binary(&mut self, level: usize) -> Result<Op2, Stop>
+        ensures { Reads (expressions.binary level self.old) result self.new }
+    {
+        match self.rest {
+            [Token::Sign(next), rest @ ..] => match operator_of_level(level, *next) {
+                Some(op) => {
+                    self.rest = rest;
+                    Ok(op)
+                }
+                None => Err(Stop::Syntax),
+            },
+            _ => Err(Stop::Syntax),
         }
     }
 
     /// No token is left.
-    #[tactic(auto, unfolding(crate::specs::Reading::end))]
-    pub fn end(&self) -> Result<(), TextFault>
+    pub fn end(&self) -> Result<(), Stop>
         ensures { Reads (spec.end self.now) result self.now }
     {
         if self.rest.is_empty() {
             Ok(())
         } else {
-            Err(TextFault::NotYet)
+            Err(Stop::Syntax)
         }
     }
 }

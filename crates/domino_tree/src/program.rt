@@ -1,11 +1,12 @@
 ghost use Rattle.std.specs.Prelude.{◌≡◌, true};
-ghost use Rattle.domino_tree.specs.Grammar.{is_program};
+ghost use Rattle.domino_tree.specs.Grammar.{is_program, program_tokens};
+ghost use Rattle.domino_tree.specs.Weight.{is_light};
 
 use crate::expr::Expr;
 use mp5_words::Name;
 use sqlite_items::Items;
 
-/// A size in a declaration.
+/// A size or a start value in a declaration.
 #[derive(Debug, Drop)]
 pub enum Size {
     /// A number.
@@ -15,15 +16,24 @@ pub enum Size {
 }
 
 /// The start value in a declaration.
-#[derive(Clone, Copy, Debug)]
+#[derive(Debug, Drop)]
 pub enum Start {
     /// None is given: each cell starts at 0.
     Absent,
+    /// Each cell starts at this value.
+    Plain(Size),
+    /// The same, in braces.
+    Braced(Size),
 }
 
 /// A declaration outside the packet's struct.
 #[derive(Debug, Drop)]
 pub enum Item {
+    /// A name for a number.
+    Define {
+        name: Name,
+        value: i32,
+    },
     /// A register, or a register array where a length is given.
     Array {
         name: Name,
@@ -46,13 +56,26 @@ pub enum Target {
     Word(Name),
     /// A field of the packet, as the packet's name and the field's.
     Field(Name, Name),
+    /// A cell of a register array, as the array's name and the index.
+    Cell(Name, Expr),
 }
 
 /// A statement.
+#[cycle(statement)]
 #[derive(Debug, Drop)]
 pub enum Stmt {
     /// An assignment.
     Set(Target, Expr),
+    /// A chain of conditions, each with its block, and the block that stands for none of them.
+    If(Items<Arm>, Option<Items<Stmt>>),
+}
+
+/// A condition of a chain, and its block.
+#[cycle(statement)]
+#[derive(Debug, Drop)]
+pub struct Arm {
+    pub cond: Expr,
+    pub body: Items<Stmt>,
 }
 
 /// The transaction: its own name, the struct that it takes, the packet's name, and its body.
@@ -65,7 +88,7 @@ pub struct Function {
 }
 
 /// A program: the items before the struct, the struct, the items after it, and the transaction. The
-/// grammar derives its canonical tokens to it.
+/// grammar derives its canonical tokens to it, and their weight never exceeds 64.
 #[derive(Drop)]
 pub struct Program {
     pub before: Items<Item>,
@@ -73,4 +96,5 @@ pub struct Program {
     pub after: Items<Item>,
     pub function: Function,
     ghost derived: { is_program before packet after function ≡ true },
+    ghost light: { is_light (program_tokens before packet after function) ≡ true },
 }

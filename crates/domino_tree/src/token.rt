@@ -17,16 +17,62 @@ pub enum Sign {
     Plus,
     /// `-`
     Minus,
+    /// `*`
+    Star,
+    /// `/`
+    Slash,
+    /// `%`
+    Percent,
+    /// `<<`
+    ShiftLeft,
+    /// `>>`
+    ShiftRight,
+    /// `<`
+    Less,
+    /// `<=`
+    LessEqual,
+    /// `>`
+    Greater,
+    /// `>=`
+    GreaterEqual,
+    /// `==`
+    Equal,
+    /// `!=`
+    NotEqual,
+    /// `&`
+    Ampersand,
+    /// `^`
+    Caret,
+    /// `|`
+    Bar,
+    /// `&&`
+    AndAnd,
+    /// `||`
+    OrOr,
+    /// `!`
+    Bang,
+    /// `~`
+    Tilde,
     /// `=`
     Assign,
+    /// `?`
+    Question,
+    /// `:`
+    Colon,
     /// `;`
     Semicolon,
+    /// `,`
+    Comma,
     /// `.`
     Dot,
     /// `(`
     OpenRound,
     /// `)`
     CloseRound,
+    /// `[`
+    OpenSquare,
+    /// `]`
+    CloseSquare,
     /// `{`
     OpenCurly,
     /// `}`
@@ -40,6 +86,8 @@ pub enum Token {
     Name(Name),
     /// A reserved name.
     Keyword(Keyword),
+    /// `#define`
+    Define,
     /// A number, as the word with its bits.
     Number(i32),
     /// A sign.

@@ -1,10 +1,9 @@
-use Rattle.std.proofs.Common.{◌≡◌, ◌++◌, length}
-use Rattle.std.specs.Option.{option_map}
-use Rattle.domino_syntax.specs.Tokens.{tokens}
+use Rattle.std.proofs.Common.{◌≡◌, ◌≤◌, length}
+use Rattle.domino_syntax.specs.Tokens.{tokens, with_front}
 use Rattle.domino_syntax.proofs.lex.tokens_of.Given as goal
 
-abbrev pub invariant-loop-rest : goal.invariant-loop-rest
-invariant-loop-rest l = option_map (λ ts. l.tokens.items ++ ts) (tokens l.rest) ≡ tokens l.fn.text
+abbrev pub invariant-loop-tokens : goal.invariant-loop-tokens
+invariant-loop-tokens l = (with_front l.tokens.items (tokens l.rest) ≡ tokens l.fn.text) × (length l.rest ≤ length l.fn.text)
 
-abbrev pub decreases-loop-rest : goal.decreases-loop-rest
-decreases-loop-rest l = length l.rest
+abbrev pub decreases-loop-tokens : goal.decreases-loop-tokens
+decreases-loop-tokens l = length l.rest

@@ -3,4 +3,4 @@ use Rattle.std.specs.Str.Parse.{digits_value}
 use Rattle.domino_syntax.proofs.lex.value_of.Given as goal
 
 abbrev pub invariant-loop-digit : goal.invariant-loop-digit
-invariant-loop-digit l = l.value ≡ digits_value 10 (take l.digit-index l.digits)
+invariant-loop-digit l = l.value ≡ digits_value l.radix (take l.digit-index l.digits)

@@ -1,16 +1,26 @@
-use Rattle.std.proofs.Common.{ap, ◌∙◌}
-use Rattle.std.specs.List.{list_all}
-use Rattle.domino_syntax.specs.Tokens.{is_token}
-use Rattle.domino_syntax.proofs.LexLemmas.{tokens_are_names}
-use Rattle.domino_syntax.proofs.Deciding.{one_tree}
+use Rattle.domino_syntax.proofs.Deciding as deciding
+use Rattle.domino_syntax.proofs.Texts as texts
 use Rattle.domino_syntax.proofs.read.read_program.Goals as goal
 
-pub returns-then-text-gt-MAX_TEXT-clause-one_tree : goal.returns-then-text-gt-MAX_TEXT-clause-one_tree
-returns-then-text-gt-MAX_TEXT-clause-one_tree c = one_tree
+pub returns-then-text-gt-MAX_TEXT-clause-one_tree :
+    goal.returns-then-text-gt-MAX_TEXT-clause-one_tree
+returns-then-text-gt-MAX_TEXT-clause-one_tree c = deciding.one_tree
 
-pub returns-in_err-tokens-clause-one_tree : goal.returns-in_err-tokens-clause-one_tree
-returns-in_err-tokens-clause-one_tree c = one_tree
+pub returns-then-text-gt-MAX_TEXT-clause-one_refusal :
+    goal.returns-then-text-gt-MAX_TEXT-clause-one_refusal
+returns-then-text-gt-MAX_TEXT-clause-one_refusal c = texts.one_refusal
 
-pub program-requires : goal.program-requires
-program-requires c =
-    ap (list_all is_token) c.deref.ensures.value ∙ tokens_are_names c.args.text.now c.in_ok-tokens.tokens.items c.in_ok-tokens.ensures.read
+pub returns-clause-accepts : goal.returns-clause-accepts
+returns-clause-accepts c = texts.accepts c.args.text.now c.read_short.result (c.read_short.ensures.read, c.read_short.ensures.refused)
+
+pub returns-clause-refuses : goal.returns-clause-refuses
+returns-clause-refuses c = texts.refuses c.args.text.now c.read_short.result (c.read_short.ensures.read, c.read_short.ensures.refused)
+
+pub returns-clause-printed : goal.returns-clause-printed
+returns-clause-printed c = texts.prints c.args.text.now c.read_short.result (c.read_short.ensures.read, c.read_short.ensures.refused)
+
+pub returns-clause-one_tree : goal.returns-clause-one_tree
+returns-clause-one_tree c = deciding.one_tree
+
+pub returns-clause-one_refusal : goal.returns-clause-one_refusal
+returns-clause-one_refusal c = texts.one_refusal

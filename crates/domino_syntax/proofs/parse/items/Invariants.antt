@@ -1,7 +1,0 @@
-use Rattle.std.proofs.Common.{◌≡◌, ◌-◌, length}
-use Rattle.domino_tree.specs.declared.token.Keyword.TheVariants.{Int}
-use Rattle.domino_syntax.specs.Reading as spec
-use Rattle.domino_syntax.proofs.parse.items.Given as goal
-
-abbrev pub invariant-loop-turn : goal.invariant-loop-turn
-invariant-loop-turn l = spec.items l.fn.reader ≡ spec.repeat (spec.sees_keyword Int) spec.register (length l.fn.reader - l._turn) l.found l.reader

@@ -1,0 +1,179 @@
+-- The parser of expressions as functions on token lists. A level of operators is read by the levels below it:
+-- the lowest, with none below, are the operators before an expression and the forms without operators; ten
+-- levels of operators between two are above it, and `c ? a : b` above all.
+use Rattle.std.specs.Prelude.{ℕ, zero, suc, ◌-◌, if◌then◌else◌, nat_eq, List, [], Option, Some, None, Err}
+use Rattle.mp5_words.specs.declared.op.Op1.{Op1}
+use Rattle.mp5_words.specs.declared.op.Op1.TheVariants as op1
+use Rattle.mp5_words.specs.declared.op.Op2.{Op2}
+use Rattle.mp5_words.specs.declared.op.Op2.TheVariants as op2
+use Rattle.domino_tree.specs.declared.token.Token.{Token}
+use Rattle.domino_tree.specs.declared.token.Token.TheVariants as token
+use Rattle.domino_tree.specs.declared.token.Sign.{Sign}
+use Rattle.domino_tree.specs.declared.token.Sign.TheVariants as signs
+use Rattle.domino_tree.specs.declared.expr.Expr.{Expr}
+use Rattle.domino_tree.specs.declared.expr.Expr.TheVariants as expr
+use Rattle.domino_tree.specs.Grammar.{level}
+use Rattle.domino_syntax.specs.Parsers.{Parser, one, sees, ◌>>=◌, ◌>>◌, pure, choice, going_on, adding, sign, name, number, sees_sign, sees_number}
+
+-- ---- operators
+
+-- the operator that a sign writes before an expression
+abbrev pub operator_before : Sign → Option Op1
+operator_before signs.Minus = Some op1.Neg
+operator_before signs.Bang = Some op1.Not
+operator_before signs.Tilde = Some op1.Flip
+operator_before _ = None
+
+-- the operator that a sign writes between two expressions
+abbrev pub operator_between : Sign → Option Op2
+operator_between signs.Star = Some op2.Mul
+operator_between signs.Slash = Some op2.Div
+operator_between signs.Percent = Some op2.Rem
+operator_between signs.Plus = Some op2.Add
+operator_between signs.Minus = Some op2.Sub
+operator_between signs.ShiftLeft = Some op2.Shl
+operator_between signs.ShiftRight = Some op2.Shr
+operator_between signs.Less = Some op2.Lt
+operator_between signs.LessEqual = Some op2.Le
+operator_between signs.Greater = Some op2.Gt
+operator_between signs.GreaterEqual = Some op2.Ge
+operator_between signs.Equal = Some op2.Eq
+operator_between signs.NotEqual = Some op2.Ne
+operator_between signs.Ampersand = Some op2.BitAnd
+operator_between signs.Caret = Some op2.BitXor
+operator_between signs.Bar = Some op2.BitOr
+operator_between signs.AndAnd = Some op2.And
+operator_between signs.OrOr = Some op2.Or
+operator_between _ = None
+
+-- an operator, where it is of this level
+abbrev pub of_level : ℕ → Option Op2 → Option Op2
+of_level k None = None
+of_level k (Some op) = if nat_eq (level op) k then Some op else None
+
+-- an operator before an expression
+abbrev pub a_unary : Token → Option Op1
+a_unary (token.Name w) = None
+a_unary (token.Keyword k) = None
+a_unary token.Define = None
+a_unary (token.Number n) = None
+a_unary (token.Sign s) = operator_before s
+
+-- an operator of this level
+abbrev pub a_binary : ℕ → Token → Option Op2
+a_binary k (token.Name w) = None
+a_binary k (token.Keyword l) = None
+a_binary k token.Define = None
+a_binary k (token.Number n) = None
+a_binary k (token.Sign s) = of_level k (operator_between s)
+
+unfoldable pub unary : Parser Op1
+unary = one a_unary
+
+unfoldable pub binary : ℕ → Parser Op2
+binary k = one (a_binary k)
+
+-- ---- forms without operators
+
+-- an expression in brackets of one kind
+unfoldable pub bracketed : Parser Expr → Sign → Sign → Parser Expr
+bracketed inner opening closing = do
+  sign opening
+  e ← inner
+  sign closing
+  pure e
+
+-- one argument more, behind a `,`
+unfoldable pub argument : Parser Expr → Parser Expr
+argument inner = sign signs.Comma >> inner
+
+-- arguments with `,` between them, up to the bracket that closes them
+unfoldable pub arguments : Parser Expr → Parser (List Expr)
+arguments inner =
+    choice (sees_sign signs.CloseRound) (pure []) (adding inner [] >>= going_on (λ _. sees_sign signs.Comma) (adding (argument inner)))
+
+-- `.`, and the field's name
+unfoldable pub field : List ℕ → Parser Expr
+field w = sign signs.Dot >> (name >>= (λ f. pure (expr.Field w f)))
+
+-- an index in square brackets
+unfoldable pub cell : Parser Expr → List ℕ → Parser Expr
+cell inner w = bracketed inner signs.OpenSquare signs.CloseSquare >>= (λ i. pure (expr.Cell w i))
+
+-- arguments in round brackets
+unfoldable pub call : Parser Expr → List ℕ → Parser Expr
+call inner w = do
+  sign signs.OpenRound
+  args ← arguments inner
+  sign signs.CloseRound
+  pure (expr.Call w args)
+
+-- what is behind a name: a field, an index, arguments, or nothing
+unfoldable pub behind_name : Parser Expr → List ℕ → Parser Expr
+behind_name inner w =
+    choice (sees_sign signs.Dot) (field w)
+    (choice (sees_sign signs.OpenSquare) (cell inner w)
+    (choice (sees_sign signs.OpenRound) (call inner w)
+    (pure (expr.Word w))))
+
+-- a name and what is behind it
+unfoldable pub named : Parser Expr → Parser Expr
+named inner = name >>= behind_name inner
+
+-- a number, an expression in round brackets, or what begins with a name
+unfoldable pub primary : Parser Expr → Parser Expr
+primary inner =
+    choice sees_number (number >>= (λ n. pure (expr.Number n)))
+    (choice (sees_sign signs.OpenRound) (bracketed inner signs.OpenRound signs.CloseRound >>= (λ e. pure (expr.Group e)))
+    (named inner))
+
+-- ---- operators on expressions
+
+-- an operator and its operand, or a form without operators
+unfoldable pub operand : Parser Expr → Parser Expr → Parser Expr
+operand tight inner =
+    choice (sees a_unary) (unary >>= (λ op. tight >>= (λ a. pure (expr.One op a)))) (primary inner)
+
+-- one operator of a level more, and what stands on its right
+unfoldable pub joined : Parser Expr → ℕ → Expr → Parser Expr
+joined right k left = binary k >>= (λ op. right >>= (λ e. pure (expr.Two op left e)))
+
+-- goes on from an expression by operators of a level
+unfoldable pub chain : Parser Expr → ℕ → Expr → Parser Expr
+chain right k = going_on (λ _. sees (a_binary k)) (joined right k)
+
+-- `?`, an expression, `:` and an expression behind a condition, or nothing
+unfoldable pub pick : Parser Expr → Expr → Parser Expr
+pick inner c =
+    choice (sees_sign signs.Question)
+    (do
+      sign signs.Question
+      a ← inner
+      sign signs.Colon
+      b ← inner
+      pure (expr.Pick c a b))
+    (pure c)
+
+-- how many levels are below `c ? a : b`
+abbrev pub loosest : ℕ
+loosest = 11
+
+-- what is read behind an expression with so many levels below its own, where the expression may stand one
+-- level above
+abbrev pub behind_level : (ℕ → Parser Expr) → Parser Expr → ℕ → Expr → Parser Expr
+behind_level within same j left = if nat_eq j 10 then pick (within loosest) left else chain same (10 - j) left
+
+-- an expression with so many levels below its own; each form within it is read as `within` says
+unfoldable pub tier : (ℕ → Parser Expr) → ℕ → Parser Expr
+tier within zero = operand (within 0) (within loosest)
+tier within (suc j) = tier within j >>= behind_level within (tier within j) j
+
+-- an expression with so many levels below its own, and with fewer forms within forms than the first number
+-- says; each form within another has fewer tokens
+unfoldable pub expression_at : ℕ → ℕ → Parser Expr
+expression_at zero below = λ tokens. Err tokens
+expression_at (suc depth) below = tier (expression_at depth) below
+
+-- any expression
+abbrev pub expression : ℕ → Parser Expr
+expression depth = expression_at depth loosest
