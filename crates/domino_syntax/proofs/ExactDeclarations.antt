@@ -1,5 +1,5 @@
 -- The parsers of items and of the struct are exact.
-use Rattle.std.proofs.Common.{◌≡◌, ◌≤◌, ◌⊎◌, inl, inr, ℕ, ℤ, Bool, true, false, not, ◌&&◌, List, [], ◌∷◌, ◌++◌, length, Option, Some, None, refl, ap, sym, subst, ◌∙◌, append_assoc, arith}
+use Rattle.std.proofs.Common.{◌≡◌, ◌≤◌, inl, inr, ℕ, ℤ, Bool, true, false, not, ◌&&◌, List, [], ◌∷◌, ◌++◌, length, Option, Some, None, refl, ap, sym, subst, ◌∙◌, append_assoc, arith}
 use Rattle.std.specs.List.{list_all, flat_map}
 use Rattle.std.proofs.lemmas.Bool.{and_from, and_parts}
 use Rattle.mp5_words.specs.Words.{op1}
@@ -16,12 +16,12 @@ use Rattle.domino_tree.specs.declared.program.Item.{Item}
 use Rattle.domino_tree.specs.declared.program.Item.TheVariants as items_of
 use Rattle.domino_tree.specs.declared.program.PacketDecl.{PacketDecl}
 use Rattle.domino_tree.specs.Grammar.{is_name, size_tokens, is_size, length_tokens, is_length, is_start, is_item, declaration, packet_tokens, is_packet, in_curly}
-use Rattle.domino_tree.specs.Derives.{IsNegated, IsValue, IsEntry, IsPlain, IsBraced, IsStart, IsDefine, IsArray, IsItem}
-use Rattle.domino_syntax.specs.Parsers.{Parser, first, sees_sign, sees_keyword, sees_define, sees_name}
+use Rattle.domino_tree.specs.Derives.{IsNegated, IsValue, IsEntry, IsStart, IsItem}
+use Rattle.domino_syntax.specs.Parsers.{first, sees_sign, sees_keyword, sees_define, sees_name}
 use Rattle.domino_syntax.specs.ReadingPrograms.{negated, value, word, entry, size, bracketed, cells, braced, plain, start, definition, register, begins_item, item, items, field, fields, packet}
-use Rattle.domino_syntax.proofs.Exact.{Grammar, Stops, anywhere, Exact, exact_as, exact_narrower, exact_map, Image, exact_pure, Nothing, Then, Either, exact_choice, Many, exact_all, By, list_to, list_from}
-use Rattle.domino_syntax.proofs.OneToken.{IsToken, IsName, name_tokens, IsNumber, exact_sign, exact_keyword, exact_define, exact_name, exact_number, Behind, Closed, exact_closed}
-use Rattle.domino_syntax.proofs.Known.{in_turn, behind, Rest, rest_known, rest_token, rest_part, exact_by}
+use Rattle.domino_syntax.proofs.Exact.{Grammar, Stops, anywhere, Exact, exact_as, exact_map, Image, exact_pure, Nothing, Then, Either, exact_choice, Many, exact_all, By, list_to, list_from}
+use Rattle.domino_syntax.proofs.OneToken.{IsName, name_tokens, IsNumber, exact_sign, exact_keyword, exact_define, exact_name, exact_number, Behind, Closed, exact_closed}
+use Rattle.domino_syntax.proofs.Known.{in_turn, behind, rest_known, rest_token, rest_part, exact_by}
 
 -- ---- values, entries and sizes
 

@@ -1,5 +1,5 @@
 -- The parsers of the function and of the four parts of a program are exact.
-use Rattle.std.proofs.Common.{◌≡◌, ℕ, Bool, true, false, not, ◌&&◌, List, [], ◌∷◌, ◌++◌, length, map, Option, refl, ap, sym, subst, ◌∙◌, append_assoc}
+use Rattle.std.proofs.Common.{◌≡◌, ℕ, Bool, true, false, ◌&&◌, List, [], ◌∷◌, ◌++◌, refl, ap, sym, subst, ◌∙◌}
 use Rattle.std.specs.List.{list_all}
 use Rattle.std.specs.Option.{is_none}
 use Rattle.std.proofs.lemmas.Bool.{and_from, and_parts}
@@ -11,13 +11,13 @@ use Rattle.domino_tree.specs.declared.token.Sign.TheVariants as signs
 use Rattle.domino_tree.specs.declared.program.Item.{Item}
 use Rattle.domino_tree.specs.declared.program.PacketDecl.{PacketDecl}
 use Rattle.domino_tree.specs.declared.program.Function.{Function}
-use Rattle.domino_tree.specs.Grammar.{is_name, is_item, packet_tokens, is_packet, function_tokens, is_function, is_program}
+use Rattle.domino_tree.specs.Grammar.{is_name, is_item, packet_tokens, is_packet, function_tokens, is_function}
 use Rattle.domino_tree.specs.Derives.{AreItems, none, more, Parts}
-use Rattle.domino_syntax.specs.Parsers.{Parser, first}
+use Rattle.domino_syntax.specs.Parsers.{first}
 use Rattle.domino_syntax.specs.ReadingPrograms.{statement, head, function, parts}
 use Rattle.domino_syntax.proofs.Exact.{Grammar, Stops, anywhere, Exact, exact_as, exact_map, Image, IsEnd, exact_end, Then, Many, By}
 use Rattle.domino_syntax.proofs.OneToken.{name_tokens, exact_sign, exact_keyword, exact_name}
-use Rattle.domino_syntax.proofs.Known.{in_turn, Rest, rest_known, rest_token, rest_part, exact_by}
+use Rattle.domino_syntax.proofs.Known.{in_turn, rest_known, rest_token, rest_part, exact_by}
 use Rattle.domino_syntax.proofs.ExactDeclarations.{ItemForm, no_item, exact_items, exact_packet}
 use Rattle.domino_syntax.proofs.ExactStatements.{body_tokens, is_body, exact_block, exact_statement}
 

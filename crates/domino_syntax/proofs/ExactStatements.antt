@@ -1,5 +1,5 @@
 -- The parsers of statements are exact.
-use Rattle.std.proofs.Common.{◌≡◌, ◌≤◌, ◌⊎◌, inl, inr, ℕ, zero, suc, Bool, true, false, not, ◌&&◌, ◌||◌, List, [], ◌∷◌, ◌++◌, length, map, Option, Some, None, Ok, Err, refl, ap, sym, subst, ◌∙◌, append_assoc, arith, length-append}
+use Rattle.std.proofs.Common.{◌≡◌, ◌≤◌, inl, inr, ℕ, zero, suc, Bool, true, false, not, ◌&&◌, List, [], ◌∷◌, ◌++◌, length, map, Option, Some, None, Ok, Err, refl, ap, sym, subst, ◌∙◌, append_assoc, arith, length-append}
 use Rattle.std.specs.List.{list_all, flat_map}
 use Rattle.std.proofs.lemmas.Bool.{and_from, and_parts}
 use Rattle.std.proofs.lemmas.List.{append-nil}
@@ -7,7 +7,6 @@ use Rattle.std.proofs.lemmas.List.Concat.{flat_map-cons}
 use Rattle.std.proofs.lemmas.List.Folds.{flat_map-map}
 use Rattle.domino_tree.specs.declared.token.Token.{Token}
 use Rattle.domino_tree.specs.declared.token.Token.TheVariants as token
-use Rattle.domino_tree.specs.declared.token.Keyword.{Keyword}
 use Rattle.domino_tree.specs.declared.token.Keyword.TheVariants as keywords
 use Rattle.domino_tree.specs.declared.token.Sign.TheVariants as signs
 use Rattle.domino_tree.specs.declared.expr.Expr.{Expr}
@@ -16,12 +15,11 @@ use Rattle.domino_tree.specs.declared.program.Target.TheVariants as targets
 use Rattle.domino_tree.specs.declared.program.Stmt.{Stmt}
 use Rattle.domino_tree.specs.declared.program.Stmt.TheVariants as stmt
 use Rattle.domino_tree.specs.declared.program.Arm.{Arm}
-use Rattle.domino_tree.specs.Grammar.{is_name, spelled, stands, target_tokens, is_target, in_square, block_tokens, chained, with_elses, last_block, has_arm, all_true, stmt_tokens, is_stmt, arm_tokens, is_arm}
+use Rattle.domino_tree.specs.Grammar.{is_name, spelled, stands, target_tokens, is_target, in_square, block_tokens, with_elses, all_true, stmt_tokens, is_stmt, arm_tokens, is_arm}
 use Rattle.domino_tree.proofs.StmtLemmas as lemmas
-use Rattle.domino_syntax.specs.Parsers.{Parser, first, sees_sign, sees_keyword, sees_name}
-use Rattle.domino_syntax.specs.ReadingExpressions.{expression}
+use Rattle.domino_syntax.specs.Parsers.{Parser, first, sees_sign, sees_keyword}
 use Rattle.domino_syntax.specs.ReadingPrograms.{dotted, indexed, after_name, target, assignment, begins_statement, block, arm, links, conditional, statement}
-use Rattle.domino_syntax.proofs.Exact.{Grammar, Stops, anywhere, Exactly, ReadsForm, Exact, exact_below, exact_as, exact_narrower, exact_map, Image, exact_pure, Nothing, Then, Either, exact_choice, Many, exact_all, By, list_to, list_from, first_none}
+use Rattle.domino_syntax.proofs.Exact.{Grammar, Stops, anywhere, Exactly, Exact, exact_below, exact_as, exact_map, Image, exact_pure, Nothing, Then, Either, exact_choice, Many, exact_all, By, list_to, list_from, first_none}
 use Rattle.domino_syntax.proofs.OneToken.{IsName, name_tokens, exact_sign, exact_keyword, exact_name, Behind, Closed, exact_closed}
 use Rattle.domino_syntax.proofs.Known.{exact_some, in_turn, behind, opened, Rest, rest_known, rest_token, rest_opened, rest_part, exact_by}
 use Rattle.domino_syntax.proofs.ExpressionsStops.{stops_at}

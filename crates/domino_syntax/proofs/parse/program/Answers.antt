@@ -1,4 +1,4 @@
-use Rattle.std.proofs.Common.{◌≡◌, ◌-◌, length, Ok, Err, ap, sym, subst, ◌∙◌}
+use Rattle.std.proofs.Common.{◌≡◌, ◌-◌, length, Err, ap, sym, subst, ◌∙◌}
 use Rattle.domino_syntax.specs.ReadingPrograms.{parts}
 use Rattle.domino_syntax.specs.Stuck.{IsStuckAt}
 use Rattle.domino_syntax.proofs.Weighing.{canonical_light}

@@ -1,4 +1,4 @@
-use Rattle.std.proofs.Common.{◌≡◌, ◌-◌, ◌+◌, suc, true, false, length, ◌++◌, Ok, ◌∙◌, ap, sym, arith}
+use Rattle.std.proofs.Common.{◌≡◌, ◌-◌, ◌+◌, suc, true, false, length, Ok, ◌∙◌, ap, sym, arith}
 use Rattle.domino_tree.specs.declared.token.Keyword.TheVariants as keywords
 use Rattle.domino_syntax.specs.Parsers.{first, keyword, sees_keyword}
 use Rattle.domino_syntax.specs.ReadingPrograms.{begins_statement, statement, arm, block, links}
