@@ -2,6 +2,7 @@
 use Rattle.std.proofs.Common.{◌≡◌, ℕ, Bool, true, false, ◌&&◌, List, [], ◌∷◌, ◌++◌, refl, ap, sym, subst, ◌∙◌}
 use Rattle.std.specs.List.{list_all}
 use Rattle.std.specs.Option.{is_none}
+use Rattle.std.proofs.Math.Bool.{and-true}
 use Rattle.std.proofs.lemmas.Bool.{and_from, and_parts}
 use Rattle.std.proofs.lemmas.List.{append-nil}
 use Rattle.domino_tree.specs.declared.token.Token.{Token}
@@ -20,10 +21,6 @@ use Rattle.domino_syntax.proofs.OneToken.{name_tokens, exact_sign, exact_keyword
 use Rattle.domino_syntax.proofs.Known.{in_turn, rest_known, rest_token, rest_part, exact_by}
 use Rattle.domino_syntax.proofs.ExactDeclarations.{ItemForm, no_item, exact_items, exact_packet}
 use Rattle.domino_syntax.proofs.ExactStatements.{body_tokens, is_body, exact_block, exact_statement}
-
-and_true : (b : Bool) → (b && true) ≡ b
-and_true true = refl
-and_true false = refl
 
 -- ---- the function
 
@@ -56,7 +53,7 @@ exact_head =
     (λ y rest stop. refl))))
     (λ y rest stop. refl)))
     (λ y. refl)
-    (λ y. ap (λ b. is_name y.0 && (is_name y.1 && b)) (and_true (is_name y.2)))
+    (λ y. ap (λ b. is_name y.0 && (is_name y.1 && b)) (and-true (is_name y.2)))
 
 abbrev names_of : Function → Names
 names_of f = (f.name, f.of, f.packet)
@@ -65,7 +62,7 @@ same_function : (names : Names) (f : Function) → names_of f ≡ names → f �
 same_function names f is = ap (λ (x : Names). record { name = x.0; of = x.1; packet = x.2; body = f.body }) is
 
 function_tests : (name of packet body : Bool) → ((name && (of && packet)) && (body && true)) ≡ (name && (of && (packet && body)))
-function_tests true true true body = and_true body
+function_tests true true true body = and-true body
 function_tests true true false body = refl
 function_tests true false packet body = refl
 function_tests false of packet body = refl
