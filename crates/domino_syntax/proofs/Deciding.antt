@@ -72,7 +72,7 @@ module _ (tokens rest : List Token) (b : Breaks PartsForm tokens rest) (n : ℕ)
   stuck_at (t ∷ l) same less begun =
       let front : take (n + 1) tokens ≡ b.used ++ t ∷ [] = ap (take (n + 1)) (b.parts ∙ ap (λ r. b.used ++ r) same) ∙ take_next b.used l t n is in
       let whole : PartsForm (b.used ++ (t ∷ begun.more)) (begun.before, begun.packet, begun.after, begun.function) =
-          subst (λ l. PartsForm l (begun.before, begun.packet, begun.after, begun.function)) (ap (λ l. l ++ begun.more) front ∙ append_assoc b.used (t ∷ []) begun.more) begun.derived in
+      subst (λ l. PartsForm l (begun.before, begun.packet, begun.after, begun.function)) (ap (λ l. l ++ begun.more) front ∙ append_assoc b.used (t ∷ []) begun.more) begun.derived in
       b.none (t ∷ begun.more) (begun.before, begun.packet, begun.after, begun.function) (ap first (sym same)) whole
 
   at_end : (l : List Token) → rest ≡ l → n ≡ length tokens → (x : Four) → ¬ PartsForm tokens x
@@ -153,7 +153,7 @@ parts_named tokens x h =
     let two = and_parts (list_all is_token (packet_tokens x.1)) (list_all is_token (function_tokens x.3)) (sym (list_all-append is_token (packet_tokens x.1) (function_tokens x.3)) ∙ bare) in
     ap (list_all is_token) h.spells
     ∙ named_append h.front (packet_tokens x.1 ++ (h.middle ++ function_tokens x.3)) (items_named h.front x.0 h.items_before holds.0)
-        (named_append (packet_tokens x.1) (h.middle ++ function_tokens x.3) two.0 (named_append h.middle (function_tokens x.3) (items_named h.middle x.2 h.items_after last.0) two.1))
+    (named_append (packet_tokens x.1) (h.middle ++ function_tokens x.3) two.0 (named_append h.middle (function_tokens x.3) (items_named h.middle x.2 h.items_after last.0) two.1))
 
 -- ---- one tree
 

@@ -74,7 +74,7 @@ exact_function n =
     (rest_part names_of head_tokens is_head _ _ _ anywhere exact_head
     (λ names. rest_part (λ (f : Function). f.body) body_tokens is_body _ _ _ anywhere (exact_block (statement n) (exact_statement n))
     (λ body. rest_known (λ (f : Function). (Unit {0} × (names_of f ≡ names)) × (f.body ≡ body)) (record { name = names.0; of = names.1; packet = names.2; body = body }) ((tt, refl), refl)
-        (λ f h. same_function names f h.0.1 ∙ ap (λ body. record { name = names.0; of = names.1; packet = names.2; body = body }) h.1))
+    (λ f h. same_function names f h.0.1 ∙ ap (λ body. record { name = names.0; of = names.1; packet = names.2; body = body }) h.1))
     (λ y rest stop. refl))
     (λ y rest stop. refl))
     (λ f. ap (λ l. head_tokens (names_of f) ++ l) (append-nil (body_tokens f.body)))

@@ -480,8 +480,8 @@ exact_arm d form exact =
     (λ y rest stop. refl)))
     (λ y rest stop. refl))))
     (λ a. ap (λ l. token.Keyword keywords.If ∷ token.Sign signs.OpenRound ∷ l)
-        (ap (λ l. spelled a.cond ++ (token.Sign signs.CloseRound ∷ l)) (append-nil (body_tokens a.body)) ∙ sym (append_assoc (spelled a.cond) (token.Sign signs.CloseRound ∷ []) (body_tokens a.body)))
-        ∙ sym (arm_is a))
+    (ap (λ l. spelled a.cond ++ (token.Sign signs.CloseRound ∷ l)) (append-nil (body_tokens a.body)) ∙ sym (append_assoc (spelled a.cond) (token.Sign signs.CloseRound ∷ []) (body_tokens a.body)))
+    ∙ sym (arm_is a))
     (λ a. ap (λ b. is_expression a.cond && b) (and-true (is_body a.body)) ∙ sym (lemmas.is_arm-Arm a.cond a.body))
 
 -- ---- statements
