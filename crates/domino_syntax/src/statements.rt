@@ -23,12 +23,7 @@ fn dotted(alloc: Global, reader: &mut Reader<'_>, name: Name) -> Result<Target, 
 
 /// A cell, from the square bracket on.
 #[tactic(auto, unfolding(crate::specs::ReadingPrograms::indexed))]
-fn indexed(
-    alloc: Global,
-    reader: &mut Reader<'_>,
-    depth: usize,
-    name: Name,
-) -> Result<Target, Stop>
+fn indexed(alloc: Global, reader: &mut Reader<'_>, depth: usize, name: Name) -> Result<Target, Stop>
     ensures { Reads (spec.indexed depth name reader.old) result reader.new }
 {
     reader.sign(Sign::OpenSquare)?;
