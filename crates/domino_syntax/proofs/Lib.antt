@@ -4,6 +4,17 @@ pub mod Turns
 pub mod Tiers
 pub mod Exact
 pub mod OneToken
+pub mod Chains
+pub mod Known
+pub mod ExactDeclarations
+pub mod ExactStatements
+pub mod ExactPrograms
+pub mod WeighLemmas
+pub mod Weighing
+pub mod TokenText
+pub mod NamedTokens
+pub mod PrintedText
+pub mod Deciding
 pub mod ExpressionsStops
 pub mod ExpressionsForms
 pub mod ExpressionsLevels

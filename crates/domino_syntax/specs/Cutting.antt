@@ -9,5 +9,7 @@ use Rattle.domino_syntax.specs.Tokens.{cut}
 abbrev pub Cuts : {A : Type 0} → (A → List Token) → List ℕ → Result A TextFault → Type 0
 Cuts view text (Ok list) = cut text ≡ Ok (view list)
 Cuts view text (Err (fault.BadToken at)) = cut text ≡ Err at
-Cuts view text (Err fault.NotYet) = ⊥
+Cuts view text (Err (fault.TooLong n)) = ⊥
+Cuts view text (Err (fault.TooDeep n)) = ⊥
+Cuts view text (Err (fault.Syntax n)) = ⊥
 Cuts view text (Err fault.NoMemory) = Unit {0}

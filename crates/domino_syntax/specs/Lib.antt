@@ -6,3 +6,7 @@ pub mod Cutting
 pub mod Pieces
 pub mod Parsers
 pub mod ReadingExpressions
+pub mod ReadingPrograms
+pub mod Weighing
+pub mod Printing
+pub mod Stuck

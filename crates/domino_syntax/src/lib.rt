@@ -4,10 +4,14 @@
 //! text has two, and that a text is refused only where it has none.
 #![tactic(auto)]
 
+mod declarations;
 mod expressions;
 mod fault;
 mod lex;
 mod operators;
+mod parse;
 mod reader;
+mod statements;
+mod weigh;
 
 pub use fault::TextFault;

@@ -1,5 +1,5 @@
 -- The grammar derives the canonical tokens of a program to it.
-use Rattle.std.proofs.Common.{List, flat_map, ◌∷◌, [], inl, refl}
+use Rattle.std.proofs.Common.{◌≡◌, true, List, flat_map, ◌∷◌, [], inl, refl}
 use Rattle.domino_tree.specs.declared.token.Token.TheVariants as token
 use Rattle.domino_tree.specs.declared.program.Size.{Size}
 use Rattle.domino_tree.specs.declared.program.Size.TheVariants as size
@@ -7,9 +7,11 @@ use Rattle.domino_tree.specs.declared.program.Start.{Start}
 use Rattle.domino_tree.specs.declared.program.Start.TheVariants as start
 use Rattle.domino_tree.specs.declared.program.Item.{Item}
 use Rattle.domino_tree.specs.declared.program.Item.TheVariants as item
+use Rattle.domino_tree.specs.declared.program.PacketDecl.{PacketDecl}
+use Rattle.domino_tree.specs.declared.program.Function.{Function}
 use Rattle.domino_tree.specs.declared.program.Program.{Program}
-use Rattle.domino_tree.specs.Grammar.{size_tokens, start_tokens, item_tokens, program_tokens}
-use Rattle.domino_tree.specs.Derives.{IsEntry, IsStart, IsItem, AreItems, none, more, Derives}
+use Rattle.domino_tree.specs.Grammar.{size_tokens, start_tokens, item_tokens, program_tokens, is_program}
+use Rattle.domino_tree.specs.Derives.{IsEntry, IsStart, IsItem, AreItems, none, more, Parts, Derives}
 
 pub canonical_entry : (entry : Size) → IsEntry (size_tokens entry) entry
 canonical_entry (size.Number n) = inl refl
@@ -28,11 +30,15 @@ pub canonical_items : (items : List Item) → AreItems (flat_map item_tokens ite
 canonical_items [] = none
 canonical_items (i ∷ items) = more (item_tokens i) i (flat_map item_tokens items) items (canonical_item i) (canonical_items items)
 
-pub canonical : (p : Program) → Derives (program_tokens p.before p.packet p.after p.function) p
-canonical p = record {
-  before = flat_map item_tokens p.before;
-  after = flat_map item_tokens p.after;
+pub canonical_parts : (before : List Item) (packet : PacketDecl) (after : List Item) (function : Function) → is_program before packet after function ≡ true → Parts (program_tokens before packet after function) before packet after function
+canonical_parts before packet after function stands = record {
+  front = flat_map item_tokens before;
+  middle = flat_map item_tokens after;
   spells = refl;
-  items_before = canonical_items p.before;
-  items_after = canonical_items p.after;
+  items_before = canonical_items before;
+  items_after = canonical_items after;
+  stands = stands;
 }
+
+pub canonical : (p : Program) → Derives (program_tokens p.before p.packet p.after p.function) p
+canonical p = canonical_parts p.before p.packet p.after p.function p.derived

@@ -1,7 +1,7 @@
--- The grammar as a relation between a token list and a program. Only a value in an item has two spellings: a
--- number, or `-` and a number. All else has the tokens of its forms, one after another; that each form may
--- stand where it stands is kept by the type of programs.
-use Rattle.std.specs.Prelude.{◌≡◌, ◌⊎◌, ℕ, ℤ, Option, List, [], ◌∷◌, ◌++◌}
+-- The grammar as a relation between a token list and the four parts of a program. Only a value in an item has
+-- two spellings: a number, or `-` and a number. All else has the tokens of its forms, one after another. The
+-- weight has no part in it: the type of programs keeps the parts whose canonical tokens are light.
+use Rattle.std.specs.Prelude.{◌≡◌, ◌⊎◌, ℕ, ℤ, true, Option, List, [], ◌∷◌, ◌++◌}
 use Rattle.mp5_words.specs.Words.{op1}
 use Rattle.mp5_words.specs.declared.op.Op1.TheVariants.{Neg}
 use Rattle.domino_tree.specs.declared.token.Token.{Token}
@@ -13,8 +13,10 @@ use Rattle.domino_tree.specs.declared.program.Start.{Start}
 use Rattle.domino_tree.specs.declared.program.Start.TheVariants as start
 use Rattle.domino_tree.specs.declared.program.Item.{Item}
 use Rattle.domino_tree.specs.declared.program.Item.TheVariants as item
+use Rattle.domino_tree.specs.declared.program.PacketDecl.{PacketDecl}
+use Rattle.domino_tree.specs.declared.program.Function.{Function}
 use Rattle.domino_tree.specs.declared.program.Program.{Program}
-use Rattle.domino_tree.specs.Grammar.{declaration, length_tokens, in_curly, packet_tokens, function_tokens}
+use Rattle.domino_tree.specs.Grammar.{declaration, length_tokens, in_curly, packet_tokens, function_tokens, is_program}
 
 -- `-` and a number, which stand for the negated word
 pub record IsNegated (tokens : List Token) (value : ℤ) : Type 0 where
@@ -71,10 +73,25 @@ pub data AreItems : List Token → List Item → Type 0 where
   none : AreItems [] []
   more : (front : List Token) (first : Item) (back : List Token) (others : List Item) → IsItem front first → AreItems back others → AreItems (front ++ back) (first ∷ others)
 
--- the grammar derives these tokens to this program: items, the struct, items, the function
-pub record Derives (tokens : List Token) (program : Program) : Type 0 where
-  pub before : List Token
-  pub after : List Token
-  pub spells : tokens ≡ before ++ (packet_tokens program.packet ++ (after ++ function_tokens program.function))
-  pub items_before : AreItems before program.before
-  pub items_after : AreItems after program.after
+-- the grammar derives these tokens to these parts: items, the struct, items, the function, each a form that
+-- may stand where it stands
+pub record Parts (tokens : List Token) (before : List Item) (packet : PacketDecl) (after : List Item) (function : Function) : Type 0 where
+  pub front : List Token
+  pub middle : List Token
+  pub spells : tokens ≡ front ++ (packet_tokens packet ++ (middle ++ function_tokens function))
+  pub items_before : AreItems front before
+  pub items_after : AreItems middle after
+  pub stands : is_program before packet after function ≡ true
+
+-- the grammar derives these tokens to this program
+abbrev pub Derives : List Token → Program → Type 0
+Derives tokens program = Parts tokens program.before program.packet program.after program.function
+
+-- the grammar derives some tokens that begin so
+pub record Begins (start : List Token) : Type 0 where
+  pub more : List Token
+  pub before : List Item
+  pub packet : PacketDecl
+  pub after : List Item
+  pub function : Function
+  pub derived : Parts (start ++ more) before packet after function
