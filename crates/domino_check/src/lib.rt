@@ -3,5 +3,7 @@
 #![tactic(auto)]
 
 mod fault;
+mod numbered;
 
 pub use fault::{CheckFault, What};
+pub use numbered::{ArrayInfo, CheckedArm, CheckedExpr, CheckedStmt};
