@@ -4,6 +4,7 @@
 
 mod fault;
 mod numbered;
+mod scope;
 
 pub use fault::{CheckFault, What};
 pub use numbered::{ArrayInfo, CheckedArm, CheckedExpr, CheckedStmt};
