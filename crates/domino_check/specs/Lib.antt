@@ -1,2 +1,3 @@
 pub mod First
 pub mod Infos
+pub mod Numbering

@@ -4,6 +4,7 @@
 
 mod fault;
 mod numbered;
+mod numbering;
 mod scope;
 
 pub use fault::{CheckFault, What};
