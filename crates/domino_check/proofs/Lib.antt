@@ -1,1 +1,5 @@
+pub mod FirstLemmas
 pub mod ScopeLemmas
+pub mod NumberingLemmas
+pub mod IndexLemmas
+pub mod MeaningLemmas

@@ -1,3 +1,5 @@
 pub mod First
 pub mod Infos
 pub mod Numbering
+pub mod Indexes
+pub mod NumberedMeaning

@@ -73,3 +73,76 @@ numbered names e = (in_numbers names e).tree
 -- the accesses of arrays in an expression
 abbrev pub accesses_in : Names → Expr → List Access
 accesses_in names e = (in_numbers names e).accesses
+
+-- ---- statements
+
+-- an assignment in numbers
+abbrev pub numbered_set : Names → Target → CheckedExpr → CheckedStmt
+numbered_set names (target.Word w) value = stmt.SetCell (array_number names w) value
+numbered_set names (target.Field p f) value = stmt.SetField (field_number names f) value
+numbered_set names (target.Cell a i) value = stmt.SetCell (array_number names a) value
+
+-- a statement in numbers, from its arms and blocks
+abbrev pub stmt_numbering : Names → open_form.Stmt-F CheckedStmt CheckedArm → CheckedStmt
+stmt_numbering names (open_form.Stmt-F.Set t e) = numbered_set names t (numbered names e)
+stmt_numbering names (open_form.Stmt-F.If arms last) = stmt.If arms last
+
+-- an arm in numbers, from its statements
+abbrev pub arm_numbering : Names → open_form.Arm-F CheckedStmt CheckedArm → CheckedArm
+arm_numbering names arm = record { cond = numbered names arm.cond; body = arm.body }
+
+-- a statement in numbers
+abbrev pub numbered_stmt : Names → Stmt → CheckedStmt
+numbered_stmt names = fold-Stmt CheckedStmt CheckedArm (stmt_numbering names) (arm_numbering names)
+
+-- an arm in numbers
+abbrev pub numbered_arm : Names → Arm → CheckedArm
+numbered_arm names = fold-Arm CheckedStmt CheckedArm (stmt_numbering names) (arm_numbering names)
+
+-- ---- the accesses of arrays in statements
+
+-- these accesses, one list after another
+abbrev pub in_turn : List (List Access) → List Access
+in_turn lists = flat_map (λ (l : List Access). l) lists
+
+-- the accesses in the last block, where there is one
+abbrev pub in_last : Option (List (List Access)) → List Access
+in_last None = []
+in_last (Some body) = in_turn body
+
+-- the accesses in a target; they stand before those in the right side
+abbrev pub target_accesses : Names → Target → List Access
+target_accesses names (target.Word w) = register_at (array_number names w) ∷ []
+target_accesses names (target.Field p f) = []
+target_accesses names (target.Cell a i) = access_at (array_number names a) (in_numbers names i)
+
+-- the accesses in a statement, from those in its arms and blocks
+abbrev pub stmt_accessing : Names → open_form.Stmt-F (List Access) (List Access) → List Access
+stmt_accessing names (open_form.Stmt-F.Set t e) = target_accesses names t ++ accesses_in names e
+stmt_accessing names (open_form.Stmt-F.If arms last) = in_turn arms ++ in_last last
+
+-- the accesses in an arm, from those in its statements
+abbrev pub arm_accessing : Names → open_form.Arm-F (List Access) (List Access) → List Access
+arm_accessing names arm = accesses_in names arm.cond ++ in_turn arm.body
+
+-- the accesses in a statement
+abbrev pub stmt_accesses : Names → Stmt → List Access
+stmt_accesses names = fold-Stmt (List Access) (List Access) (stmt_accessing names) (arm_accessing names)
+
+-- the accesses in an arm
+abbrev pub arm_accesses : Names → Arm → List Access
+arm_accesses names = fold-Arm (List Access) (List Access) (stmt_accessing names) (arm_accessing names)
+
+-- the accesses in statements, in text order
+abbrev pub block_accesses : Names → List Stmt → List Access
+block_accesses names body = in_turn (map (stmt_accesses names) body)
+
+-- ---- programs
+
+-- the body of a program in numbers
+abbrev pub numbered_body : Program → List CheckedStmt
+numbered_body p = map (numbered_stmt (names_of p)) p.function.body
+
+-- the accesses of arrays in the body of a program, in text order
+abbrev pub accesses : Program → List Access
+accesses p = block_accesses (names_of p) p.function.body

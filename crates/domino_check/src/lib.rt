@@ -3,6 +3,7 @@
 #![tactic(auto)]
 
 mod fault;
+mod indexes;
 mod numbered;
 mod numbering;
 mod scope;

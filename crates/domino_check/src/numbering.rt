@@ -1,11 +1,11 @@
 //! The body of a program in numbers.
 ghost use Rattle.std.specs.Prelude.{◌≡◌, ◌++◌, ◌∷◌, [], IfOk, OnOk, map, flat_map};
 ghost use Rattle.domino_tree.specs.Value.{hash_kind, number_of, array_number};
-ghost use Rattle.domino_check.specs.Numbering.{in_numbers, numbered, accesses_in, access_at, register_at, numbered_word, numbered_call, Numbered};
+ghost use Rattle.domino_check.specs.Numbering.{in_numbers, numbered, accesses_in, access_at, register_at, numbered_word, numbered_call, numbered_set, target_accesses, numbered_stmt, numbered_arm, in_turn, stmt_accesses, arm_accesses, block_accesses, Numbered};
 
-use crate::numbered::CheckedExpr;
+use crate::numbered::{CheckedArm, CheckedExpr, CheckedStmt};
 use crate::scope::Scope;
-use domino_tree::Expr;
+use domino_tree::{Arm, Expr, Stmt, Target};
 use mp5_words::{HashKind, Name};
 use sqlite_items::{Boxed, Items};
 use std::alloc::{AllocError, Global};
@@ -37,9 +37,9 @@ fn hash_kind(name: &Name) -> Option<HashKind>
     }
 }
 
-/// An expression in numbers. Its accesses go to the end of the list.
+// An expression in numbers. Its accesses go to the end of the list.
 #[cycle(number_expr)]
-pub(crate) fn number_expr(
+fn number_expr(
     alloc: Global,
     scope: &Scope<'_>,
     expr: &Expr,
@@ -114,9 +114,9 @@ fn number_args(
     Ok(trees)
 }
 
-/// The access of an array at an index, and then those in the index, go to the end of the list.
+// The access of an array at an index, and then those in the index, go to the end of the list.
 #[cycle(number_expr)]
-pub(crate) fn number_access(
+fn number_access(
     alloc: Global,
     scope: &Scope<'_>,
     array: u32,
@@ -150,10 +150,115 @@ fn number_word(scope: &Scope<'_>, name: &Name, accesses: &mut Vec<Access>) -> Re
     }
 }
 
-/// The access of a register goes to the end of the list.
-pub(crate) fn push_register(accesses: &mut Vec<Access>, array: u32) -> Result<(), AllocError>
+// The access of a register goes to the end of the list.
+fn push_register(accesses: &mut Vec<Access>, array: u32) -> Result<(), AllocError>
     ensures { OnOk result (accesses.new.items ≡ accesses.old.items ++ (register_at array ∷ [])) }
 {
     accesses.push(Access { array, index: Some(CheckedExpr::Number(0)) })?;
     Ok(())
+}
+
+/// Statements in numbers. Their accesses go to the end of the list.
+#[cycle(number_stmt)]
+pub(crate) fn number_block(
+    alloc: Global,
+    scope: &Scope<'_>,
+    body: &[Stmt],
+    accesses: &mut Vec<Access>,
+) -> Result<Items<CheckedStmt>, AllocError>
+    ensures trees { IfOk result (λ trees. trees ≡ map (numbered_stmt scope.now) body.now) }
+    ensures accesses { OnOk result (accesses.new.items ≡ accesses.old.items ++ block_accesses scope.now body.now) }
+{
+    let mut trees = Items::new(alloc);
+    for stmt in body {
+        trees.push(number_stmt(alloc, scope, stmt, accesses)?)?;
+    }
+    Ok(trees)
+}
+
+#[cycle(number_stmt)]
+fn number_stmt(
+    alloc: Global,
+    scope: &Scope<'_>,
+    stmt: &Stmt,
+    accesses: &mut Vec<Access>,
+) -> Result<CheckedStmt, AllocError>
+    ensures tree { IfOk result (λ tree. tree ≡ numbered_stmt scope.now stmt.now) }
+    ensures accesses { OnOk result (accesses.new.items ≡ accesses.old.items ++ stmt_accesses scope.now stmt.now) }
+{
+    match stmt {
+        Stmt::Set(target, expr) => number_set(alloc, scope, target, expr, accesses),
+        Stmt::If(arms, None) => {
+            let arms = number_arms(alloc, scope, arms.as_slice(), accesses)?;
+            Ok(CheckedStmt::If(arms, None))
+        }
+        Stmt::If(arms, Some(body)) => {
+            let arms = number_arms(alloc, scope, arms.as_slice(), accesses)?;
+            let body = number_block(alloc, scope, body.as_slice(), accesses)?;
+            Ok(CheckedStmt::If(arms, Some(body)))
+        }
+    }
+}
+
+// The arms of a chain.
+#[cycle(number_stmt)]
+fn number_arms(
+    alloc: Global,
+    scope: &Scope<'_>,
+    arms: &[Arm],
+    accesses: &mut Vec<Access>,
+) -> Result<Items<CheckedArm>, AllocError>
+    ensures trees { IfOk result (λ trees. trees ≡ map (numbered_arm scope.now) arms.now) }
+    ensures accesses { OnOk result (accesses.new.items ≡ accesses.old.items ++ in_turn (map (arm_accesses scope.now) arms.now)) }
+{
+    let mut trees = Items::new(alloc);
+    for arm in arms {
+        trees.push(number_arm(alloc, scope, arm, accesses)?)?;
+    }
+    Ok(trees)
+}
+
+// A condition, and its block.
+#[cycle(number_stmt)]
+fn number_arm(
+    alloc: Global,
+    scope: &Scope<'_>,
+    arm: &Arm,
+    accesses: &mut Vec<Access>,
+) -> Result<CheckedArm, AllocError>
+    ensures tree { IfOk result (λ tree. tree ≡ numbered_arm scope.now arm.now) }
+    ensures accesses { OnOk result (accesses.new.items ≡ accesses.old.items ++ arm_accesses scope.now arm.now) }
+{
+    let cond = number_expr(alloc, scope, &arm.cond, accesses)?;
+    let body = number_block(alloc, scope, arm.body.as_slice(), accesses)?;
+    Ok(CheckedArm { cond, body })
+}
+
+// An assignment. The accesses in the target stand before those in the right side.
+fn number_set(
+    alloc: Global,
+    scope: &Scope<'_>,
+    target: &Target,
+    expr: &Expr,
+    accesses: &mut Vec<Access>,
+) -> Result<CheckedStmt, AllocError>
+    ensures tree { IfOk result (λ tree. tree ≡ numbered_set scope.now target.now (numbered scope.now expr.now)) }
+    ensures accesses { OnOk result (accesses.new.items ≡ accesses.old.items ++ (target_accesses scope.now target.now ++ accesses_in scope.now expr.now)) }
+{
+    match target {
+        Target::Word(name) => {
+            let array = scope.array_number(name);
+            push_register(accesses, array)?;
+            Ok(CheckedStmt::SetCell(array, number_expr(alloc, scope, expr, accesses)?))
+        }
+        Target::Field(_, field) => {
+            let field = scope.field_number(field);
+            Ok(CheckedStmt::SetField(field, number_expr(alloc, scope, expr, accesses)?))
+        }
+        Target::Cell(array, index) => {
+            let array = scope.array_number(array);
+            number_access(alloc, scope, array, index, accesses)?;
+            Ok(CheckedStmt::SetCell(array, number_expr(alloc, scope, expr, accesses)?))
+        }
+    }
 }
