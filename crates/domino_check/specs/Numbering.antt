@@ -1,6 +1,7 @@
 -- A program's body in numbers, and the accesses of arrays in it, in text order.
 use Rattle.std.specs.Prelude.{◌≡◌, ℕ, ℤ, pos, Bool, List, [], ◌∷◌, ◌++◌, map, flat_map, Option, Some, None}
 use Rattle.mp5_words.specs.declared.hashing.HashKind.{HashKind}
+use Rattle.mp5_words.specs.declared.hashing.HashKind.TheVariants.{Two}
 use Rattle.domino_tree.specs.declared.expr.Expr.{Expr, fold-Expr}
 use Rattle.domino_tree.specs.declared.expr.Expr.TheOpen.{Expr-F}
 use Rattle.domino_tree.specs.declared.program.Target.{Target}
@@ -42,9 +43,9 @@ abbrev pub numbered_word : Option ℤ → ℕ → Numbered
 numbered_word (Some n) array = record { tree = expr.Number n; accesses = [] }
 numbered_word None array = record { tree = expr.Cell array; accesses = register_at array ∷ [] }
 
--- a hash of the arguments; 0 where the name is no hash function's
+-- a hash of the arguments; where the name is no hash function's, the arguments are evaluated and 0 is the value
 abbrev pub numbered_call : Option HashKind → List CheckedExpr → CheckedExpr
-numbered_call None args = expr.Number (pos 0)
+numbered_call None args = expr.Pick (expr.Number (pos 0)) (expr.Hash Two args) (expr.Number (pos 0))
 numbered_call (Some kind) args = expr.Hash kind args
 
 -- a form in numbers, from its operands; the access of an array stands before those in its index

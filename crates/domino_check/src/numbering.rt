@@ -1,5 +1,5 @@
 //! The body of a program in numbers.
-ghost use Rattle.std.specs.Prelude.{◌≡◌, ◌++◌, ◌∷◌, [], IfOk, OnOk, map, flat_map};
+ghost use Rattle.std.specs.Prelude.{◌≡◌, ◌++◌, ◌∷◌, [], IfOk, OnOk, None, map, flat_map};
 ghost use Rattle.domino_tree.specs.Value.{hash_kind, number_of, array_number};
 ghost use Rattle.domino_check.specs.Numbering.{in_numbers, numbered, accesses_in, access_at, register_at, numbered_word, numbered_call, numbered_set, target_accesses, numbered_stmt, numbered_arm, in_turn, stmt_accesses, arm_accesses, block_accesses, Numbered};
 
@@ -77,7 +77,7 @@ fn number_expr(
     }
 }
 
-// A hash of the arguments; 0 where the name is no hash function's.
+// A hash of the arguments; where the name is no hash function's, they are evaluated and 0 is the value.
 #[cycle(number_expr)]
 fn number_call(
     alloc: Global,
@@ -92,8 +92,18 @@ fn number_call(
     let args = number_args(alloc, scope, args, accesses)?;
     match hash_kind(function) {
         Some(kind) => Ok(CheckedExpr::Hash(kind, args)),
-        None => Ok(CheckedExpr::Number(0)),
+        None => evaluated(alloc, args),
     }
+}
+
+// The arguments are evaluated, and 0 is the value.
+fn evaluated(alloc: Global, args: Items<CheckedExpr>) -> Result<CheckedExpr, AllocError>
+    ensures { IfOk result (λ tree. tree ≡ numbered_call None args) }
+{
+    let cond = Boxed::new(alloc, CheckedExpr::Number(0))?;
+    let hash = Boxed::new(alloc, CheckedExpr::Hash(HashKind::Two, args))?;
+    let zero = Boxed::new(alloc, CheckedExpr::Number(0))?;
+    Ok(CheckedExpr::Pick(cond, hash, zero))
 }
 
 // The arguments of a call.
