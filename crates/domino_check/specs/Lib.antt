@@ -1,1 +1,4 @@
 pub mod First
+pub mod Uses
+pub mod Declarations
+pub mod Checks

@@ -3,5 +3,7 @@
 #![tactic(auto)]
 
 mod fault;
+mod role;
+mod uses;
 
 pub use fault::{CheckFault, What};
