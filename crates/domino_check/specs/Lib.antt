@@ -2,3 +2,4 @@ pub mod First
 pub mod Uses
 pub mod Declarations
 pub mod Checks
+pub mod Tables

@@ -2,7 +2,9 @@
 //! hash calls with as many arguments as they take, sizes within the limits, and one index for each array.
 #![tactic(auto)]
 
+mod declarations;
 mod fault;
+mod names;
 mod role;
 mod uses;
 
