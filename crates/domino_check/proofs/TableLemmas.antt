@@ -1,8 +1,9 @@
 -- What a table of kinds holds when one more name is declared.
-use Rattle.std.proofs.Common.{◌≡◌, ℕ, Bool, true, false, cond, not, ◌&&◌, is_some, is_none, if◌then◌else◌, List, [], ◌∷◌, ◌++◌, Option, Some, None, Bor, refl, sym, ap, subst, ◌∙◌, true≢false}
+use Rattle.std.proofs.Common.{◌≡◌, ℕ, ◌+◌, ◌<◌, length, get_or, take, append_assoc, Bool, true, false, cond, not, ◌&&◌, is_some, is_none, if◌then◌else◌, List, [], ◌∷◌, ◌++◌, Option, Some, None, Bor, refl, sym, ap, subst, ◌∙◌, true≢false}
 use Rattle.std.specs.Str.{bytes_eq}
 use Rattle.std.specs.HashMap.{HashMap, get_by}
 use Rattle.std.specs.Map.{lookup}
+use Rattle.std.proofs.lemmas.List.{take_more}
 use Rattle.std.proofs.lemmas.Bool.{and_parts}
 use Rattle.std.proofs.lemmas.Slice.Eq.{bytes_eq-Decides}
 use Rattle.domino_check.specs.declared.role.Kind.{Kind}
@@ -10,7 +11,7 @@ use Rattle.domino_check.specs.declared.role.Kind.TheVariants as kind
 use Rattle.domino_check.specs.declared.role.Class.{Class}
 use Rattle.domino_check.specs.declared.role.Class.TheVariants as class
 use Rattle.domino_check.specs.contracts.role.ClassPartialEq.TheImpl.{ghosts}
-use Rattle.domino_check.specs.Declarations.{Declaration, class_of, is_same_class, declares, kind_in}
+use Rattle.domino_check.specs.Declarations.{Declaration, class_of, is_same_class, declares, kind_in, hash_declarations}
 use Rattle.domino_check.specs.Tables.{kind_at, Holds}
 
 -- ---- classes
@@ -82,7 +83,7 @@ module _ {S : Type 0} where
   -- a new name is put into the table, and all others stay
   pub holds_more : (old new : HashMap (Class × Bor (List ℕ)) Kind S) (d : Declaration)
       → ((q : Class × Bor (List ℕ)) → get_by {K = Class × Bor (List ℕ)} (λ y. ghosts.eq q.0 y.0 && bytes_eq q.1.now y.1.now) new
-          ≡ cond (ghosts.eq (class_of d.kind) q.0 && bytes_eq d.name q.1.now) (Some d.kind) (get_by {K = Class × Bor (List ℕ)} (λ y. ghosts.eq q.0 y.0 && bytes_eq q.1.now y.1.now) old))
+      ≡ cond (ghosts.eq (class_of d.kind) q.0 && bytes_eq d.name q.1.now) (Some d.kind) (get_by {K = Class × Bor (List ℕ)} (λ y. ghosts.eq q.0 y.0 && bytes_eq q.1.now y.1.now) old))
       → kind_at old (class_of d.kind) d.name ≡ None
       → (ds : List Declaration) → Holds old ds → Holds new (ds ++ d ∷ [])
   holds_more old new d updates none ds holds c name =
@@ -93,6 +94,7 @@ module _ {S : Type 0} where
     where
       Goal : Bool → Type 0
       Goal b = cond b (Some d.kind) (kind_in c name ds) ≡ kind_in c name (ds ++ d ∷ [])
+
       by : (b : Bool) → (is_same_class (class_of d.kind) c && bytes_eq d.name name) ≡ b → Goal (is_same_class (class_of d.kind) c && bytes_eq d.name name)
       by true e =
           let parts = and_parts (is_same_class (class_of d.kind) c) (bytes_eq d.name name) e in
@@ -104,12 +106,13 @@ module _ {S : Type 0} where
           ∙ sym (first_at_last c name d ds nowhere ∙ ap (λ t. if t then Some d.kind else None) here)
       by false e =
           let flip : (b : Bool) → declares c name d ≡ b → declares c name d ≡ false = λ b. elim b as (λ t. declares c name d ≡ t → declares c name d ≡ false) [
-              true ↦ λ h.
-                  let parts = and_parts (is_same_class c (class_of d.kind)) (bytes_eq name d.name) h in
-                  let same_class : c ≡ class_of d.kind = same_class_is c (class_of d.kind) parts.0 in
-                  let same_name : name ≡ d.name = (bytes_eq-Decides name d.name).0 parts.1 in
-                  absurd (true≢false (sym (key_refl (class_of d.kind) d.name) ∙ (λ i. is_same_class (class_of d.kind) (sym same_class i) && bytes_eq d.name (sym same_name i)) ∙ e))
-            | false ↦ λ h. h ] in
+            | true ↦ λ h.
+                let parts = and_parts (is_same_class c (class_of d.kind)) (bytes_eq name d.name) h in
+                let same_class : c ≡ class_of d.kind = same_class_is c (class_of d.kind) parts.0 in
+                let same_name : name ≡ d.name = (bytes_eq-Decides name d.name).0 parts.1 in
+                absurd (true≢false (sym (key_refl (class_of d.kind) d.name) ∙ (λ i. is_same_class (class_of d.kind) (sym same_class i) && bytes_eq d.name (sym same_name i)) ∙ e))
+            | false ↦ λ h. h
+          ] in
           ap (λ t. cond t (Some d.kind) (kind_in c name ds)) e
           ∙ sym (other_at_last c name d (flip (declares c name d) refl) ds)
 
@@ -126,3 +129,27 @@ module _ {S : Type 0} where
   -- an empty table holds no declarations
   pub holds_none : (table : HashMap (Class × Bor (List ℕ)) Kind S) → table.entries ≡ [] → Holds table []
   holds_none table e c name = ap (lookup {K = Class × Bor (List ℕ)} {X = Kind} (λ (key : Class × Bor (List ℕ)). is_same_class c key.0 && bytes_eq name key.1.now)) e
+
+  -- the declarations so far and one more are held
+  pub held_more : (table : HashMap (Class × Bor (List ℕ)) Kind S) (ds : List Declaration) (i : ℕ) (d : Declaration) (name : List ℕ) (k : Kind)
+      → i < length ds → d ≡ get_or ds i d → name ≡ d.name → k ≡ d.kind
+      → Holds table ((hash_declarations ++ take i ds) ++ record { name = name; kind = k } ∷ [])
+      → Holds table (hash_declarations ++ take (i + 1) ds)
+  held_more table ds i d name k within here same_name same_kind held =
+      subst (Holds table)
+      (append_assoc hash_declarations (take i ds) (record { name = name; kind = k } ∷ [])
+      ∙ ap (λ (l : List Declaration). hash_declarations ++ l)
+      ((λ j. take i ds ++ record { name = same_name j; kind = same_kind j } ∷ [])
+      ∙ ap (λ (y : Declaration). take i ds ++ y ∷ []) here
+      ∙ sym (take_more ds i d within)))
+      held
+
+-- a name that isn't new was declared before
+pub told_before : (is_new before : Bool) → is_new ≡ not before → is_new ≡ false → before ≡ true
+told_before is_new true says old = refl
+told_before is_new false says old = absurd (true≢false (sym says ∙ old))
+
+-- a name that is new was not
+pub told_new : (is_new before : Bool) → is_new ≡ not before → is_new ≡ true → before ≡ false
+told_new is_new true says new = absurd (true≢false (sym new ∙ says))
+told_new is_new false says new = refl

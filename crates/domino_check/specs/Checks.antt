@@ -48,19 +48,22 @@ class_for role.Packet = class.Others
 class_for role.Array = class.Others
 class_for (role.Call n) = class.Others
 
--- the kind that the name of a use is declared as, where it is declared in its class; a declaration may stand
--- behind the use
-abbrev pub kind_for : Program → Use → Option Kind
-kind_for p u = kind_in (class_for u.role) u.name (declared p)
+-- the kind that each name of a class is declared as, where it is; a declaration may stand behind a use
+abbrev pub kinds_in : Program → Class → List ℕ → Option Kind
+kinds_in p c name = kind_in c name (declared p)
 
-abbrev pub UnknownAt : Program → List Use → Use → CheckFault → Type 0
-UnknownAt p before u f = IsTrue (is_none (kind_for p u)) × (f ≡ fault.Unknown u.name)
+-- the kind that the name of a use is declared as
+abbrev pub kind_for : (Class → List ℕ → Option Kind) → Use → Option Kind
+kind_for kinds u = kinds (class_for u.role) u.name
+
+abbrev pub UnknownAt : (Class → List ℕ → Option Kind) → List Use → Use → CheckFault → Type 0
+UnknownAt kinds before u f = IsTrue (is_none (kind_for kinds u)) × (f ≡ fault.Unknown u.name)
 
 abbrev pub FirstUnknown : Program → CheckFault → Type 0
-FirstUnknown p f = FirstFault (UnknownAt p) (uses_of p) f
+FirstUnknown p f = FirstFault (UnknownAt (kinds_in p)) (uses_of p) f
 
 abbrev pub NoUnknown : Program → Type 0
-NoUnknown p = NoFault (UnknownAt p) (uses_of p)
+NoUnknown p = NoFault (UnknownAt (kinds_in p)) (uses_of p)
 
 -- ---- names of another kind
 
@@ -82,14 +85,14 @@ abbrev pub is_misused : Role → Option Kind → Bool
 is_misused r None = false
 is_misused r (Some k) = not (takes r k)
 
-abbrev pub WrongKindAt : Program → List Use → Use → CheckFault → Type 0
-WrongKindAt p before u f = IsTrue (is_misused u.role (kind_for p u)) × (f ≡ fault.WrongKind u.name)
+abbrev pub WrongKindAt : (Class → List ℕ → Option Kind) → List Use → Use → CheckFault → Type 0
+WrongKindAt kinds before u f = IsTrue (is_misused u.role (kind_for kinds u)) × (f ≡ fault.WrongKind u.name)
 
 abbrev pub FirstWrongKind : Program → CheckFault → Type 0
-FirstWrongKind p f = FirstFault (WrongKindAt p) (uses_of p) f
+FirstWrongKind p f = FirstFault (WrongKindAt (kinds_in p)) (uses_of p) f
 
 abbrev pub NoWrongKind : Program → Type 0
-NoWrongKind p = NoFault (WrongKindAt p) (uses_of p)
+NoWrongKind p = NoFault (WrongKindAt (kinds_in p)) (uses_of p)
 
 -- ---- calls
 
@@ -132,14 +135,14 @@ abbrev pub TellsLength : List ℕ → Option ℤ → CheckFault → Type 0
 TellsLength name None f = ⊥
 TellsLength name (Some n) f = IsTrue (is_bad_length n) × (f ≡ fault.BadLength name n)
 
-abbrev pub BadLengthAt : Program → List Item → Item → CheckFault → Type 0
-BadLengthAt p before i f = TellsLength (item_name i) (declared_length (names_of p).defines i) f
+abbrev pub BadLengthAt : List Defined → List Item → Item → CheckFault → Type 0
+BadLengthAt defines before i f = TellsLength (item_name i) (declared_length defines i) f
 
 abbrev pub FirstBadLength : Program → CheckFault → Type 0
-FirstBadLength p f = FirstFault (BadLengthAt p) (p.before ++ p.after) f
+FirstBadLength p f = FirstFault (BadLengthAt (names_of p).defines) (p.before ++ p.after) f
 
 abbrev pub NoBadLength : Program → Type 0
-NoBadLength p = NoFault (BadLengthAt p) (p.before ++ p.after)
+NoBadLength p = NoFault (BadLengthAt (names_of p).defines) (p.before ++ p.after)
 
 -- ---- counts
 
@@ -162,11 +165,11 @@ abbrev pub counted : List What
 counted = what.Defines ∷ what.Fields ∷ what.Arrays ∷ what.Cells ∷ []
 
 -- there are more than there may be
-abbrev pub TooManyAt : Program → List What → What → CheckFault → Type 0
-TooManyAt p before w f = IsTrue (nat_lt (limit w) (count (names_of p) w)) × (f ≡ fault.TooMany w (count (names_of p) w))
+abbrev pub TooManyAt : Names → List What → What → CheckFault → Type 0
+TooManyAt names before w f = IsTrue (nat_lt (limit w) (count names w)) × (f ≡ fault.TooMany w (count names w))
 
 abbrev pub FirstTooMany : Program → CheckFault → Type 0
-FirstTooMany p f = FirstFault (TooManyAt p) counted f
+FirstTooMany p f = FirstFault (TooManyAt (names_of p)) counted f
 
 abbrev pub NoTooMany : Program → Type 0
-NoTooMany p = NoFault (TooManyAt p) counted
+NoTooMany p = NoFault (TooManyAt (names_of p)) counted

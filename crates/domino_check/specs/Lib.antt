@@ -3,3 +3,4 @@ pub mod Uses
 pub mod Declarations
 pub mod Checks
 pub mod Tables
+pub mod Numbers

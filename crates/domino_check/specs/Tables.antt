@@ -1,5 +1,5 @@
 -- A table of the kinds of names, by class and name.
-use Rattle.std.specs.Prelude.{◌≡◌, ℕ, Bool, ◌&&◌, List, Option}
+use Rattle.std.specs.Prelude.{◌≡◌, ℕ, ◌&&◌, List, Option}
 use Rattle.std.specs.HashMap.{HashMap, get_by}
 use Rattle.std.specs.Str.{bytes_eq}
 use Rattle.std.proofs.Common.{Bor}

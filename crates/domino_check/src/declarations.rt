@@ -42,11 +42,7 @@ impl<'a> Declaration<'a> {
 }
 
 // A declaration at the end of the list.
-fn push<'a>(
-    out: &mut Vec<Declaration<'a>>,
-    name: &'a Name,
-    kind: Kind,
-) -> Result<(), AllocError>
+fn push<'a>(out: &mut Vec<Declaration<'a>>, name: &'a Name, kind: Kind) -> Result<(), AllocError>
     ensures { OnOk result (out.new.items ≡ out.old.items ++ record { name = name.now; kind = kind } ∷ []) }
 {
     out.push(Declaration { name, kind })?;
@@ -59,7 +55,9 @@ fn push_item<'a>(out: &mut Vec<Declaration<'a>>, item: &'a Item) -> Result<(), A
     match item {
         Item::Define { name, .. } => push(out, name, Kind::Define),
         Item::Array {
-            name, length: None, ..
+            name,
+            length: None,
+            ..
         } => push(out, name, Kind::Scalar),
         Item::Array { name, .. } => push(out, name, Kind::Array),
     }
@@ -84,10 +82,7 @@ fn push_fields<'a>(out: &mut Vec<Declaration<'a>>, fields: &'a [Name]) -> Result
 }
 
 // The struct's name, and the fields.
-fn push_packet<'a>(
-    out: &mut Vec<Declaration<'a>>,
-    packet: &'a PacketDecl,
-) -> Result<(), AllocError>
+fn push_packet<'a>(out: &mut Vec<Declaration<'a>>, packet: &'a PacketDecl) -> Result<(), AllocError>
     ensures { OnOk result (out.new.items ≡ out.old.items ++ packet_declarations packet.now) }
 {
     push(out, &packet.name, Kind::Struct)?;

@@ -2,9 +2,11 @@
 //! hash calls with as many arguments as they take, sizes within the limits, and one index for each array.
 #![tactic(auto)]
 
+mod checks;
 mod declarations;
 mod fault;
 mod names;
+mod numbers;
 mod role;
 mod uses;
 

@@ -43,3 +43,10 @@ pub(crate) fn hash_kinds<'a>(alloc: Global) -> Result<Kinds<'a>, AllocError>
     declare(&mut kinds, "hash3".as_bytes(), Kind::Hash)?;
     Ok(kinds)
 }
+
+/// A copy of a name.
+pub(crate) fn copy_name(alloc: Global, name: &Name) -> Result<Name, AllocError>
+    ensures { IfOk result (λ copy. copy ≡ name.now) }
+{
+    Ok(Name::new(Vec::from_slice(alloc, name.bytes())?))
+}

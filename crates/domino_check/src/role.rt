@@ -32,12 +32,8 @@ impl Role {
         match self {
             Role::Field => Class::Fields,
             Role::Struct => Class::Structs,
-            Role::Size
-            | Role::Value
-            | Role::Target
-            | Role::Packet
-            | Role::Array
-            | Role::Call(_) => Class::Others,
+            Role::Size | Role::Value | Role::Target | Role::Packet | Role::Array | Role::Call(_) =>
+                Class::Others,
         }
     }
 
