@@ -42,8 +42,9 @@ module _ {A : Type 0} where
   where_of (z ∷ xs) [] after x y e = inr (xs, ap (λ t. t ∷ xs) (same_head z y (xs ++ x ∷ []) after e))
   where_of (z ∷ xs) (b ∷ before) after x y e =
       elim (where_of xs before after x y (same_tail z b (xs ++ x ∷ []) (before ++ y ∷ after) e)) [
-        inl h ↦ inl ((λ i. sym (same_head z b (xs ++ x ∷ []) (before ++ y ∷ after) e) i ∷ h.0 i), h.1)
-      | inr h ↦ inr (h.0, (λ i. same_head z b (xs ++ x ∷ []) (before ++ y ∷ after) e i ∷ h.1 i)) ]
+        | inl h ↦ inl ((λ i. sym (same_head z b (xs ++ x ∷ []) (before ++ y ∷ after) e) i ∷ h.0 i), h.1)
+        | inr h ↦ inr (h.0, (λ i. same_head z b (xs ++ x ∷ []) (before ++ y ∷ after) e i ∷ h.1 i))
+      ]
 
 -- ---- walks
 
@@ -56,8 +57,9 @@ module _ {A : Type 0} (Amiss : List A → A → CheckFault → Type 0) where
   pub none_with : (front : List A) (x : A) → NoFault Amiss front → ((g : CheckFault) → Amiss front x g → ⊥) → NoFault Amiss (front ++ x ∷ [])
   none_with front x fine here before y after g e a =
       elim (where_of front before after x y e) [
-        inl h ↦ here g (subst (λ (b : List A). Amiss b x g) h.0 (subst (λ (z : A). Amiss before z g) h.1 a))
-      | inr h ↦ fine before y h.0 g h.1 a ]
+        | inl h ↦ here g (subst (λ (b : List A). Amiss b x g) h.0 (subst (λ (z : A). Amiss before z g) h.1 a))
+        | inr h ↦ fine before y h.0 g h.1 a
+      ]
 
   -- nothing is amiss at place i
   pub none_more : (places : List A) (i : ℕ) (x : A) → i < length places → x ≡ get_or places i x → NoFault Amiss (take i places)

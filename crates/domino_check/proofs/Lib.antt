@@ -3,3 +3,5 @@ pub mod ScopeLemmas
 pub mod NumberingLemmas
 pub mod IndexLemmas
 pub mod MeaningLemmas
+pub mod NumberLemmas
+pub mod TableLemmas

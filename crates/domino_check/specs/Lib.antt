@@ -3,3 +3,8 @@ pub mod Infos
 pub mod Numbering
 pub mod Indexes
 pub mod NumberedMeaning
+pub mod Uses
+pub mod Declarations
+pub mod Checks
+pub mod Tables
+pub mod Numbers

@@ -7,9 +7,9 @@ ghost use Rattle.domino_check.specs.Infos.{array_of};
 ghost use Rattle.domino_check.specs.Indexes.{IndexDiffersAt, IsOther, AreIndexes, AreBelow, AllKeep, Agrees, index_of, noted, array_name};
 
 use crate::fault::CheckFault;
+use crate::names::copy_name;
 use crate::numbered::{ArrayInfo, CheckedExpr, same};
 use crate::numbering::Access;
-use mp5_words::Name;
 use sqlite_items::Items;
 use std::alloc::{AllocError, Global};
 
@@ -71,15 +71,8 @@ fn differs(alloc: Global, arrays: &[ArrayInfo], array: usize) -> CheckFault
     requires { array < length arrays.now }
     ensures { result ≢ fault.NoMemory → result ≡ fault.IndexDiffers (array_name (map array_of arrays.now) array) }
 {
-    match copied(alloc, &arrays[array].name) {
+    match copy_name(alloc, &arrays[array].name) {
         Ok(name) => CheckFault::IndexDiffers(name),
         Err(error) => error.into(),
     }
-}
-
-// A copy of a name.
-fn copied(alloc: Global, name: &Name) -> Result<Name, AllocError>
-    ensures { IfOk result (λ copy. copy ≡ name.now) }
-{
-    Ok(Name::new(Vec::from_slice(alloc, name.bytes())?))
 }

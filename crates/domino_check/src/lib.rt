@@ -2,11 +2,17 @@
 //! hash calls with as many arguments as they take, sizes within the limits, and one index for each array.
 #![tactic(auto)]
 
+mod checks;
+mod declarations;
 mod fault;
 mod indexes;
+mod names;
 mod numbered;
 mod numbering;
+mod numbers;
+mod role;
 mod scope;
+mod uses;
 
 pub use fault::{CheckFault, What};
 pub use numbered::{ArrayInfo, CheckedArm, CheckedExpr, CheckedStmt};
