@@ -5,3 +5,4 @@ pub mod IndexLemmas
 pub mod MeaningLemmas
 pub mod NumberLemmas
 pub mod TableLemmas
+pub mod Agreement
