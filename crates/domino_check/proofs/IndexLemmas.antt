@@ -1,6 +1,7 @@
 -- The index of each array, access by access.
 use Rattle.std.proofs.Common.{◌≡◌, ◌≢◌, ℕ, zero, suc, ◌+◌, ◌<◌, ◌==◌, Bool, true, false, if◌then◌else◌, List, [], ◌∷◌, ◌++◌, length, map, replicate, take, get_or, set, None, Some, Option, refl, sym, ap, subst, ◌∙◌, append_assoc, inl, inr, arith, eq-eqb, get_or-set_same, get_or-set_other}
 use Rattle.std.proofs.lemmas.List.{length-replicate, get_or-replicate, get_or-map, length-set}
+use Rattle.std.proofs.lemmas.List.FromFn.{fill_by_all}
 use Rattle.std.proofs.lemmas.Bool.Decides.{eqb_tells}
 use Rattle.domino_tree.specs.Value.{Array}
 use Rattle.domino_check.specs.declared.fault.CheckFault.{CheckFault}
@@ -10,7 +11,7 @@ use Rattle.domino_check.specs.declared.numbered.CheckedExpr.{CheckedExpr}
 use Rattle.domino_check.specs.declared.numbering.Access.{Access}
 use Rattle.domino_check.specs.First.{FirstFault, NoFault}
 use Rattle.domino_check.specs.Infos.{array_of}
-use Rattle.domino_check.specs.Indexes.{index_of, IsOther, Agrees, Keeps, AllKeep, array_name, IndexDiffersAt, AreIndexes, AreBelow, noted}
+use Rattle.domino_check.specs.Indexes.{index_of, IsOther, Agrees, Keeps, AllKeep, array_name, IndexDiffersAt, AreIndexes, AreBelow, indexes_of, noted}
 use Rattle.domino_check.proofs.ScopeLemmas.{array_names}
 use Rattle.domino_check.proofs.FirstLemmas.{none_with, first_at}
 
@@ -31,6 +32,10 @@ pub below_at : (n : ℕ) (xs : List Access) (i : ℕ) (x : Access) → AreBelow 
 below_at n [] i x below within here = absurd (omega arith)
 below_at n (y ∷ ys) zero x below within here = subst (λ (z : Access). z.array < n) (sym here) below.0
 below_at n (y ∷ ys) (suc i) x below within here = below_at n ys i x below.1 (omega arith) here
+
+-- the table as one list
+pub indexes_are : (xs : List Access) (n : ℕ) (table : List (Option CheckedExpr)) → AreIndexes xs n table → table ≡ indexes_of xs n
+indexes_are xs n table are = fill_by_all (index_of xs) table n None are.0 are.1
 
 -- ---- indexes without arrays
 

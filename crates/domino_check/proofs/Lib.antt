@@ -6,3 +6,5 @@ pub mod MeaningLemmas
 pub mod NumberLemmas
 pub mod TableLemmas
 pub mod Agreement
+pub mod SiteLemmas
+pub mod CheckedLemmas

@@ -1,6 +1,6 @@
 -- The index of each array, which all its accesses have.
 use Rattle.std.specs.Prelude.{◌≡◌, ℕ, ◌<◌, ◌==◌, if◌then◌else◌, List, [], ◌∷◌, length, map, slice_set, Option, Some, None}
-use Rattle.std.specs.List.{slice_index_or}
+use Rattle.std.specs.List.{slice_index_or, range_with_len}
 use Rattle.domino_tree.specs.declared.program.Program.{Program}
 use Rattle.domino_tree.specs.Value.{Array, names_of}
 use Rattle.domino_check.specs.declared.fault.CheckFault.{CheckFault}
@@ -56,6 +56,10 @@ AreIndexes accesses n table = (length table ≡ n) × ((a : ℕ) → a < n → s
 -- each access of the program has the one index of its array
 abbrev pub HasIndexes : Program → Type 0
 HasIndexes p = AllKeep (index_of (accesses p)) (accesses p)
+
+-- the index of each of n arrays
+abbrev pub indexes_of : List Access → ℕ → List (Option CheckedExpr)
+indexes_of accesses n = map (index_of accesses) (range_with_len 0 n)
 
 -- the table with the index of an access, where it is the first of its array
 abbrev pub noted : Option CheckedExpr → List (Option CheckedExpr) → ℕ → Option CheckedExpr → List (Option CheckedExpr)

@@ -8,3 +8,5 @@ pub mod Declarations
 pub mod Checks
 pub mod Tables
 pub mod Numbers
+pub mod Sites
+pub mod Accepted

@@ -4,7 +4,7 @@ ghost use Rattle.std.specs.List.{slice_index_or};
 ghost use Rattle.domino_check.specs.declared.fault.CheckFault.TheVariants as fault;
 ghost use Rattle.domino_check.specs.First.{FirstFault, NoFault};
 ghost use Rattle.domino_check.specs.Infos.{array_of};
-ghost use Rattle.domino_check.specs.Indexes.{IndexDiffersAt, IsOther, AreIndexes, AreBelow, AllKeep, Agrees, index_of, noted, array_name};
+ghost use Rattle.domino_check.specs.Indexes.{IndexDiffersAt, IsOther, AreIndexes, AreBelow, AllKeep, Agrees, index_of, indexes_of, noted, array_name};
 
 use crate::fault::CheckFault;
 use crate::names::copy_name;
@@ -23,7 +23,7 @@ pub(crate) fn index_table(
     requires { AreBelow (length arrays.now) accesses.items }
     ensures passes { OnOk result (NoFault (IndexDiffersAt (map array_of arrays.now)) accesses.items) }
     ensures kept { OnOk result (AllKeep (index_of accesses.items) accesses.items) }
-    ensures table { IfOk result (λ table. AreIndexes accesses.items (length arrays.now) table) }
+    ensures table { IfOk result (λ table. table ≡ indexes_of accesses.items (length arrays.now)) }
     ensures refuses { IfErr result (λ f. f ≢ fault.NoMemory → FirstFault (IndexDiffersAt (map array_of arrays.now)) accesses.items f) }
 {
     let mut table = no_indexes(alloc, arrays.len())?;

@@ -2,6 +2,7 @@
 //! hash calls with as many arguments as they take, sizes within the limits, and one index for each array.
 #![tactic(auto)]
 
+mod checked;
 mod checks;
 mod declarations;
 mod fault;
@@ -12,7 +13,9 @@ mod numbering;
 mod numbers;
 mod role;
 mod scope;
+mod sites;
 mod uses;
 
+pub use checked::Checked;
 pub use fault::{CheckFault, What};
 pub use numbered::{ArrayInfo, CheckedArm, CheckedExpr, CheckedStmt};

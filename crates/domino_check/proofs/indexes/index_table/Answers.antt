@@ -1,10 +1,11 @@
-use Rattle.std.proofs.Common.{length, map, None, get_or, refl, sym, ◌∙◌, rules, arith}
+use Rattle.std.proofs.Common.{length, map, None, get_or, refl, sym, ap, ◌∙◌, rules, arith}
 use Rattle.std.proofs.lemmas.List.{map-id}
-use Rattle.std.proofs.lemmas.Iterator.Consumers.{YieldsList-turn, YieldsList-so_far}
+use Rattle.std.proofs.lemmas.Iterator.Consumers.{YieldsList-turn, YieldsList-so_far, YieldsList-end}
 use Rattle.std.proofs.lemmas.Iterator.Adapters.{YieldsList-from_vec}
 use Rattle.std.proofs.lemmas.Bool.{false≢true}
 use Rattle.domino_check.specs.Infos.{array_of}
-use Rattle.domino_check.proofs.IndexLemmas.{below_at, plain_from_fine, indexes_more, fine_more, keep_more, is_other, differs_first}
+use Rattle.domino_check.specs.Indexes.{indexes_of}
+use Rattle.domino_check.proofs.IndexLemmas.{below_at, plain_from_fine, indexes_more, fine_more, keep_more, indexes_are, is_other, differs_first}
 use Rattle.domino_check.proofs.indexes.index_table.Goals as goal
 
 pub note_index-requires : goal.note_index-requires
@@ -41,3 +42,10 @@ loop-access-preserved c =
       kept = keep_more (length c.args.arrays.now) c.loop-access.yielded c.in-Some.access c.loop-access.table plain within c.loop-access.invariant.table c.loop-access.invariant.kept (c.if-not-note_index.ensures.agrees refl);
       table = indexes_more (length c.args.arrays.now) c.loop-access.yielded c.in-Some.access c.loop-access.table c.note_index.new.table plain within c.loop-access.invariant.table (c.if-not-note_index.ensures.kept refl);
     }
+
+pub returns-clause-table : goal.returns-clause-table
+returns-clause-table c =
+    let end = YieldsList-end (YieldsList-from_vec {s = c.into_iter-access-iterator.result} c.args.accesses.items (search rules) (search rules))
+    c.loop-access.yielded c.loop-access.access-iterator c.loop-access.yielded_by c.next.result c.next.new.self c.in-None.is c.next.ensures.steps in
+    indexes_are c.loop-access.yielded (length c.args.arrays.now) c.loop-access.table c.loop-access.invariant.table
+    ∙ ap (λ xs. indexes_of xs (length c.args.arrays.now)) (sym (map-id c.loop-access.yielded) ∙ end.0)
