@@ -5,6 +5,7 @@
 mod checks;
 mod declarations;
 mod fault;
+mod lengths;
 mod names;
 mod numbers;
 mod role;
