@@ -1,5 +1,5 @@
 -- The first place at which something is amiss, as a walk over the places finds it.
-use Rattle.std.proofs.Common.{◌≡◌, Bool, true, false, not, Option, Some, None, is_some, is_none, ℕ, suc, ◌+◌, ◌<◌, ◌≤◌, List, [], ◌∷◌, ◌++◌, length, get_or, take, drop, refl, sym, ap, subst, ◌∙◌, ◌⊎◌, inl, inr, drop-cons}
+use Rattle.std.proofs.Common.{◌≡◌, Bool, true, false, not, Option, Some, None, is_some, is_none, ℕ, suc, ◌+◌, ◌<◌, ◌≤◌, List, [], ◌∷◌, ◌++◌, length, get_or, take, drop, refl, sym, ap, subst, ◌∙◌, ◌⊎◌, inl, inr, drop-cons, append_assoc}
 use Rattle.std.proofs.lemmas.List.{take_more, take_all, take-append-drop}
 use Rattle.domino_check.specs.declared.fault.CheckFault.{CheckFault}
 use Rattle.domino_check.specs.First.{FirstFault, NoFault}
@@ -46,6 +46,17 @@ module _ {A : Type 0} where
         | inr h ↦ inr (h.0, (λ i. same_head z b (xs ++ x ∷ []) (before ++ y ∷ after) e i ∷ h.1 i))
       ]
 
+  -- an item of two lists, one after another, is in the first or in the second
+  either_of : (xs ys before after : List A) (x : A) → xs ++ ys ≡ before ++ x ∷ after
+      → ((rest : List A) × (xs ≡ before ++ x ∷ rest)) ⊎ ((front : List A) × (ys ≡ front ++ x ∷ after))
+  either_of [] ys before after x e = inr (before, e)
+  either_of (z ∷ xs) ys [] after x e = inl (xs, ap (λ t. t ∷ xs) (same_head z x (xs ++ ys) after e))
+  either_of (z ∷ xs) ys (b ∷ before) after x e =
+      elim (either_of xs ys before after x (same_tail z b (xs ++ ys) (before ++ x ∷ after) e)) [
+        | inl h ↦ inl (h.0, (λ i. same_head z b (xs ++ ys) (before ++ x ∷ after) e i ∷ h.1 i))
+        | inr h ↦ inr h
+      ]
+
 -- ---- walks
 
 module _ {A : Type 0} (Amiss : List A → A → CheckFault → Type 0) where
@@ -85,6 +96,36 @@ module _ {A : Type 0} (Amiss : List A → A → CheckFault → Type 0) where
     is = sym (take-append-drop i places) ∙ ap (λ (l : List A). take i places ++ l) (drop-cons places i x within ∙ ap (λ (y : A). y ∷ drop (suc i) places) (sym here));
     amiss = now;
     fine = fine;
+  }
+
+-- something is amiss in the first of two lists
+pub first_left : {A : Type 0} (Amiss : List A → A → CheckFault → Type 0) (xs ys : List A) (f : CheckFault) → FirstFault Amiss xs f → FirstFault Amiss (xs ++ ys) f
+first_left {A} Amiss xs ys f h = record {
+  front = h.front;
+  at = h.at;
+  back = h.back ++ ys;
+  is = ap (λ (l : List A). l ++ ys) h.is ∙ append_assoc h.front (h.at ∷ h.back) ys;
+  amiss = h.amiss;
+  fine = h.fine;
+}
+
+-- where it doesn't matter what stands before a place
+module _ {A : Type 0} (Amiss : List A → A → CheckFault → Type 0) (steady : (before other : List A) (x : A) (f : CheckFault) → Amiss before x f → Amiss other x f) where
+  pub none_both : (xs ys : List A) → NoFault Amiss xs → NoFault Amiss ys → NoFault Amiss (xs ++ ys)
+  none_both xs ys first second before x after g e a =
+      elim (either_of xs ys before after x e) [
+        | inl h ↦ first before x h.0 g h.1 a
+        | inr h ↦ second h.0 x after g h.1 (steady before h.0 x g a)
+      ]
+
+  pub first_right : (xs ys : List A) (f : CheckFault) → NoFault Amiss xs → FirstFault Amiss ys f → FirstFault Amiss (xs ++ ys) f
+  first_right xs ys f none h = record {
+    front = xs ++ h.front;
+    at = h.at;
+    back = h.back;
+    is = ap (λ (l : List A). xs ++ l) h.is ∙ sym (append_assoc xs h.front (h.at ∷ h.back));
+    amiss = steady h.front (xs ++ h.front) h.at f h.amiss;
+    fine = none_both xs h.front none h.fine;
   }
 
 -- what `is_none` says

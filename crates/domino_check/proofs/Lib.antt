@@ -1,3 +1,4 @@
+pub mod CountLemmas
 pub mod FirstLemmas
 pub mod ScopeLemmas
 pub mod NumberingLemmas

@@ -116,27 +116,22 @@ NoArity p = NoFault ArityAt (uses_of p)
 
 -- ---- lengths
 
--- a declared length, as the word that it is
-abbrev pub declared_length : List Defined → Item → Option ℤ
-declared_length defines (item.Define name value) = None
-declared_length defines (item.Array name None start) = None
-declared_length defines (item.Array name (Some s) start) = Some (size_value defines s)
+-- a length, where it isn't from 1 to 65,536
+abbrev pub bad_of : ℤ → Option ℤ
+bad_of n = if int_lt n (pos 1) || int_lt (pos 65536) n then Some n else None
+
+-- the length that an item declares, as the word that it is, where it is such a one
+abbrev pub bad_length : List Defined → Item → Option ℤ
+bad_length defines (item.Define name value) = None
+bad_length defines (item.Array name None start) = None
+bad_length defines (item.Array name (Some s) start) = bad_of (size_value defines s)
 
 abbrev pub item_name : Item → List ℕ
 item_name (item.Define name value) = name
 item_name (item.Array name length start) = name
 
--- not from 1 to 65,536
-abbrev pub is_bad_length : ℤ → Bool
-is_bad_length n = int_lt n (pos 1) || int_lt (pos 65536) n
-
--- a declared length that isn't from 1 to 65,536 is told by its fault
-abbrev pub TellsLength : List ℕ → Option ℤ → CheckFault → Type 0
-TellsLength name None f = ⊥
-TellsLength name (Some n) f = IsTrue (is_bad_length n) × (f ≡ fault.BadLength name n)
-
 abbrev pub BadLengthAt : List Defined → List Item → Item → CheckFault → Type 0
-BadLengthAt defines before i f = TellsLength (item_name i) (declared_length defines i) f
+BadLengthAt defines before i f = (n : ℤ) × (bad_length defines i ≡ Some n) × (f ≡ fault.BadLength (item_name i) n)
 
 abbrev pub FirstBadLength : Program → CheckFault → Type 0
 FirstBadLength p f = FirstFault (BadLengthAt (names_of p).defines) (p.before ++ p.after) f

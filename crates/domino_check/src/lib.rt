@@ -7,6 +7,7 @@ mod checks;
 mod declarations;
 mod fault;
 mod indexes;
+mod lengths;
 mod names;
 mod numbered;
 mod numbering;
