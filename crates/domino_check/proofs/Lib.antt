@@ -1,0 +1,11 @@
+pub mod CountLemmas
+pub mod FirstLemmas
+pub mod ScopeLemmas
+pub mod NumberingLemmas
+pub mod IndexLemmas
+pub mod MeaningLemmas
+pub mod NumberLemmas
+pub mod TableLemmas
+pub mod Agreement
+pub mod SiteLemmas
+pub mod CheckedLemmas
