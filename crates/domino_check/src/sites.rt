@@ -194,11 +194,7 @@ fn mark(touched: &mut [bool], array: usize)
 }
 
 // The first array that a site moves, where it assigns a field.
-fn moved_by(
-    touched: &[bool],
-    indexes: &[Option<CheckedExpr>],
-    field: Option<u32>,
-) -> Option<usize>
+fn moved_by(touched: &[bool], indexes: &[Option<CheckedExpr>], field: Option<u32>) -> Option<usize>
     ensures { MovedBy touched.now indexes.now field result }
 {
     match field {
