@@ -84,11 +84,11 @@ fn run_arm(
     ensures state { state fields.new cells.new touched.new ≡ entered result (numbered_choice (indexing checked.now) arm.now) (state fields.old cells.old touched.old) }
 {
     touch_expr(touched, &arm.cond);
-    let holds = value(checked, &arm.cond, fields, cells) != 0;
-    if holds {
-        run_block(checked, arm.body.as_slice(), fields, cells, touched);
+    if value(checked, &arm.cond, fields, cells) == 0 {
+        return false;
     }
-    holds
+    run_block(checked, arm.body.as_slice(), fields, cells, touched);
+    true
 }
 
 // An assignment to a field.
