@@ -80,39 +80,41 @@ module _ (names : Names) (st : Store) where
   same_plain = induct SamePlain
       (λ n none. (ap (λ (y : Numbered). plain_value y.tree st.fields) (numbering.in_numbers-Number names n) ∙ meaning.plain-Number n st.fields ∙ sym (named.value-Number names n st), named.arrays_in-Number names n))
       (λ w none.
-          let form = numbering.in_numbers-Word names w in
-          let word = same_word (number_of w names.defines) (array_number names w) (cell_at names w 0 st) (sym (ap (λ (y : Numbered). y.accesses) form) ∙ none) in
-          (ap (λ (y : Numbered). plain_value y.tree st.fields) form ∙ word.0 ∙ sym (named.value-Word names w st), named.arrays_in-Word names w ∙ word.1))
+      let form = numbering.in_numbers-Word names w in
+      let word = same_word (number_of w names.defines) (array_number names w) (cell_at names w 0 st) (sym (ap (λ (y : Numbered). y.accesses) form) ∙ none) in
+      (ap (λ (y : Numbered). plain_value y.tree st.fields) form ∙ word.0 ∙ sym (named.value-Word names w st), named.arrays_in-Word names w ∙ word.1))
       (λ p f none. (ap (λ (y : Numbered). plain_value y.tree st.fields) (numbering.in_numbers-Field names p f) ∙ meaning.plain-Field (field_number names f) st.fields ∙ sym (named.value-Field names p f st), named.arrays_in-Field names p f))
       (λ a i held none. let form : access_at (array_number names a) (in_numbers names i) ≡ [] = sym (ap (λ (y : Numbered). y.accesses) (numbering.in_numbers-Cell names a i)) ∙ none in absurd (cc))
       (λ op a held none.
-          let form = numbering.in_numbers-One names op a in
-          let part = held (sym (ap (λ (y : Numbered). y.accesses) form) ∙ none) in
-          (ap (λ (y : Numbered). plain_value y.tree st.fields) form ∙ meaning.plain-One op (numbered names a) st.fields ∙ ap (op1 op) part.0 ∙ sym (named.value-One names op a st), named.arrays_in-One names op a ∙ part.1))
+      let form = numbering.in_numbers-One names op a in
+      let part = held (sym (ap (λ (y : Numbered). y.accesses) form) ∙ none) in
+      (ap (λ (y : Numbered). plain_value y.tree st.fields) form ∙ meaning.plain-One op (numbered names a) st.fields ∙ ap (op1 op) part.0 ∙ sym (named.value-One names op a st), named.arrays_in-One names op a ∙ part.1))
       (λ op a b first second none.
-          let form = numbering.in_numbers-Two names op a b in
-          let both : accesses_in names a ++ accesses_in names b ≡ [] = sym (ap (λ (y : Numbered). y.accesses) form) ∙ none in
-          let left = first (nil_front (accesses_in names a) (accesses_in names b) both) in
-          let right = second (nil_back (accesses_in names a) (accesses_in names b) both) in
-          (ap (λ (y : Numbered). plain_value y.tree st.fields) form ∙ meaning.plain-Two op (numbered names a) (numbered names b) st.fields ∙ (λ i. op2 op (left.0 i) (right.0 i)) ∙ sym (named.value-Two names op a b st),
-           named.arrays_in-Two names op a b ∙ (λ i. left.1 i ++ right.1 i)))
+      let form = numbering.in_numbers-Two names op a b in
+      let both : accesses_in names a ++ accesses_in names b ≡ [] = sym (ap (λ (y : Numbered). y.accesses) form) ∙ none in
+      let left = first (nil_front (accesses_in names a) (accesses_in names b) both) in
+      let right = second (nil_back (accesses_in names a) (accesses_in names b) both) in (
+        ap (λ (y : Numbered). plain_value y.tree st.fields) form ∙ meaning.plain-Two op (numbered names a) (numbered names b) st.fields ∙ (λ i. op2 op (left.0 i) (right.0 i)) ∙ sym (named.value-Two names op a b st),
+        named.arrays_in-Two names op a b ∙ (λ i. left.1 i ++ right.1 i),
+      ))
       (λ c a b zeroth first second none.
-          let form = numbering.in_numbers-Pick names c a b in
-          let all : accesses_in names c ++ (accesses_in names a ++ accesses_in names b) ≡ [] = sym (ap (λ (y : Numbered). y.accesses) form) ∙ none in
-          let both = nil_back (accesses_in names c) (accesses_in names a ++ accesses_in names b) all in
-          let cond = zeroth (nil_front (accesses_in names c) (accesses_in names a ++ accesses_in names b) all) in
-          let left = first (nil_front (accesses_in names a) (accesses_in names b) both) in
-          let right = second (nil_back (accesses_in names a) (accesses_in names b) both) in
-          (ap (λ (y : Numbered). plain_value y.tree st.fields) form ∙ meaning.plain-Pick (numbered names c) (numbered names a) (numbered names b) st.fields ∙ (λ i. picked (cond.0 i) (left.0 i) (right.0 i)) ∙ sym (named.value-Pick names c a b st),
-           named.arrays_in-Pick names c a b ∙ (λ i. cond.1 i ++ (left.1 i ++ right.1 i))))
+      let form = numbering.in_numbers-Pick names c a b in
+      let all : accesses_in names c ++ (accesses_in names a ++ accesses_in names b) ≡ [] = sym (ap (λ (y : Numbered). y.accesses) form) ∙ none in
+      let both = nil_back (accesses_in names c) (accesses_in names a ++ accesses_in names b) all in
+      let cond = zeroth (nil_front (accesses_in names c) (accesses_in names a ++ accesses_in names b) all) in
+      let left = first (nil_front (accesses_in names a) (accesses_in names b) both) in
+      let right = second (nil_back (accesses_in names a) (accesses_in names b) both) in (
+        ap (λ (y : Numbered). plain_value y.tree st.fields) form ∙ meaning.plain-Pick (numbered names c) (numbered names a) (numbered names b) st.fields ∙ (λ i. picked (cond.0 i) (left.0 i) (right.0 i)) ∙ sym (named.value-Pick names c a b st),
+        named.arrays_in-Pick names c a b ∙ (λ i. cond.1 i ++ (left.1 i ++ right.1 i)),
+      ))
       (λ f args held none.
-          let form = numbering.in_numbers-Call names f args in
-          let words = same_args args held (sym (ap (λ (y : Numbered). y.accesses) form) ∙ none) in
-          (ap (λ (y : Numbered). plain_value y.tree st.fields) form ∙ same_call (hash_kind f) _ _ words.0 ∙ sym (named.value-Call names f args st), named.arrays_in-Call names f args ∙ words.1))
+      let form = numbering.in_numbers-Call names f args in
+      let words = same_args args held (sym (ap (λ (y : Numbered). y.accesses) form) ∙ none) in
+      (ap (λ (y : Numbered). plain_value y.tree st.fields) form ∙ same_call (hash_kind f) _ _ words.0 ∙ sym (named.value-Call names f args st), named.arrays_in-Call names f args ∙ words.1))
       (λ a held none.
-          let form = numbering.in_numbers-Group names a in
-          let part = held (sym (ap (λ (y : Numbered). y.accesses) form) ∙ none) in
-          (ap (λ (y : Numbered). plain_value y.tree st.fields) form ∙ part.0 ∙ sym (named.value-Group names a st), named.arrays_in-Group names a ∙ part.1))
+      let form = numbering.in_numbers-Group names a in
+      let part = held (sym (ap (λ (y : Numbered). y.accesses) form) ∙ none) in
+      (ap (λ (y : Numbered). plain_value y.tree st.fields) form ∙ part.0 ∙ sym (named.value-Group names a st), named.arrays_in-Group names a ∙ part.1))
 
 -- ---- the place that an index names
 
@@ -138,11 +140,12 @@ module _ (names : Names) (ix : Indexing) (lengths : (array : List ℕ) → ix.le
   cell_place : (a : List ℕ) (i : Expr) → AllKeep ix.index (access_at (array_number names a) (in_numbers names i)) → (place ix (array_number names a) st.fields ≡ index_place names a (value names i st)) × (arrays_in names i ≡ [])
   cell_place a i kept =
       let whole = plain_is (numbered names i) kept.0.0 (accesses_in names i) kept.0.1 in
-      let plain = same_plain names st i whole.1 in
-      (ap (λ (x : Option CheckedExpr). named_place x (ix.length (array_number names a)) st.fields) (kept.0.2 ∙ ap Some (sym whole.0))
-       ∙ ap (λ z. cell z (ix.length (array_number names a))) plain.0
-       ∙ ap (cell (value names i st)) (lengths a),
-       plain.1)
+      let plain = same_plain names st i whole.1 in (
+        ap (λ (x : Option CheckedExpr). named_place x (ix.length (array_number names a)) st.fields) (kept.0.2 ∙ ap Some (sym whole.0))
+            ∙ ap (λ z. cell z (ix.length (array_number names a))) plain.0
+            ∙ ap (cell (value names i st)) (lengths a),
+        plain.1,
+      )
 
   -- ---- expressions
 
@@ -184,55 +187,64 @@ module _ (names : Names) (ix : Indexing) (lengths : (array : List ℕ) → ix.le
   pub same_value : (x : Expr) → Same x
   same_value = induct Same
       (λ n kept.
-          let form = numbering.in_numbers-Number names n in
-          (ap (λ (y : Numbered). numbered_value ix y.tree st) form ∙ meaning.value-Number ix n st ∙ sym (named.value-Number names n st),
-           ap (λ (y : Numbered). numbered_arrays y.tree) form ∙ meaning.arrays-Number n ∙ sym (named.arrays_in-Number names n)))
+      let form = numbering.in_numbers-Number names n in (
+        ap (λ (y : Numbered). numbered_value ix y.tree st) form ∙ meaning.value-Number ix n st ∙ sym (named.value-Number names n st),
+        ap (λ (y : Numbered). numbered_arrays y.tree) form ∙ meaning.arrays-Number n ∙ sym (named.arrays_in-Number names n),
+      ))
       (λ w kept.
-          let form = numbering.in_numbers-Word names w in
-          let word = word_value (number_of w names.defines) (array_number names w) (subst (λ (y : Numbered). AllKeep ix.index y.accesses) form kept) (register_place w) in
-          (ap (λ (y : Numbered). numbered_value ix y.tree st) form ∙ word.0 ∙ sym (named.value-Word names w st),
-           ap (λ (y : Numbered). numbered_arrays y.tree) form ∙ word.1 ∙ sym (named.arrays_in-Word names w)))
+      let form = numbering.in_numbers-Word names w in
+      let word = word_value (number_of w names.defines) (array_number names w) (subst (λ (y : Numbered). AllKeep ix.index y.accesses) form kept) (register_place w) in (
+        ap (λ (y : Numbered). numbered_value ix y.tree st) form ∙ word.0 ∙ sym (named.value-Word names w st),
+        ap (λ (y : Numbered). numbered_arrays y.tree) form ∙ word.1 ∙ sym (named.arrays_in-Word names w),
+      ))
       (λ p f kept.
-          let form = numbering.in_numbers-Field names p f in
-          (ap (λ (y : Numbered). numbered_value ix y.tree st) form ∙ meaning.value-Field ix (field_number names f) st ∙ sym (named.value-Field names p f st),
-           ap (λ (y : Numbered). numbered_arrays y.tree) form ∙ meaning.arrays-Field (field_number names f) ∙ sym (named.arrays_in-Field names p f)))
+      let form = numbering.in_numbers-Field names p f in (
+        ap (λ (y : Numbered). numbered_value ix y.tree st) form ∙ meaning.value-Field ix (field_number names f) st ∙ sym (named.value-Field names p f st),
+        ap (λ (y : Numbered). numbered_arrays y.tree) form ∙ meaning.arrays-Field (field_number names f) ∙ sym (named.arrays_in-Field names p f),
+      ))
       (λ a i held kept.
-          let form = numbering.in_numbers-Cell names a i in
-          let there = cell_place a i (subst (λ (y : Numbered). AllKeep ix.index y.accesses) form kept) in
-          (ap (λ (y : Numbered). numbered_value ix y.tree st) form ∙ meaning.value-Cell ix (array_number names a) st ∙ ap (word_at (cells_at st.cells (array_number names a))) there.0 ∙ sym (named.value-Cell names a i st),
-           ap (λ (y : Numbered). numbered_arrays y.tree) form ∙ meaning.arrays-Cell (array_number names a) ∙ ap (λ inside. array_number names a ∷ inside) (sym there.1) ∙ sym (named.arrays_in-Cell names a i)))
+      let form = numbering.in_numbers-Cell names a i in
+      let there = cell_place a i (subst (λ (y : Numbered). AllKeep ix.index y.accesses) form kept) in (
+        ap (λ (y : Numbered). numbered_value ix y.tree st) form ∙ meaning.value-Cell ix (array_number names a) st ∙ ap (word_at (cells_at st.cells (array_number names a))) there.0 ∙ sym (named.value-Cell names a i st),
+        ap (λ (y : Numbered). numbered_arrays y.tree) form ∙ meaning.arrays-Cell (array_number names a) ∙ ap (λ inside. array_number names a ∷ inside) (sym there.1) ∙ sym (named.arrays_in-Cell names a i),
+      ))
       (λ op a held kept.
-          let form = numbering.in_numbers-One names op a in
-          let part = held (subst (λ (y : Numbered). AllKeep ix.index y.accesses) form kept) in
-          (ap (λ (y : Numbered). numbered_value ix y.tree st) form ∙ meaning.value-One ix op (numbered names a) st ∙ ap (op1 op) part.0 ∙ sym (named.value-One names op a st),
-           ap (λ (y : Numbered). numbered_arrays y.tree) form ∙ meaning.arrays-One op (numbered names a) ∙ part.1 ∙ sym (named.arrays_in-One names op a)))
+      let form = numbering.in_numbers-One names op a in
+      let part = held (subst (λ (y : Numbered). AllKeep ix.index y.accesses) form kept) in (
+        ap (λ (y : Numbered). numbered_value ix y.tree st) form ∙ meaning.value-One ix op (numbered names a) st ∙ ap (op1 op) part.0 ∙ sym (named.value-One names op a st),
+        ap (λ (y : Numbered). numbered_arrays y.tree) form ∙ meaning.arrays-One op (numbered names a) ∙ part.1 ∙ sym (named.arrays_in-One names op a),
+      ))
       (λ op a b first second kept.
-          let form = numbering.in_numbers-Two names op a b in
-          let both = subst (λ (y : Numbered). AllKeep ix.index y.accesses) form kept in
-          let left = first (keep_front ix.index (accesses_in names a) (accesses_in names b) both) in
-          let right = second (keep_back ix.index (accesses_in names a) (accesses_in names b) both) in
-          (ap (λ (y : Numbered). numbered_value ix y.tree st) form ∙ meaning.value-Two ix op (numbered names a) (numbered names b) st ∙ (λ i. op2 op (left.0 i) (right.0 i)) ∙ sym (named.value-Two names op a b st),
-           ap (λ (y : Numbered). numbered_arrays y.tree) form ∙ meaning.arrays-Two op (numbered names a) (numbered names b) ∙ (λ i. left.1 i ++ right.1 i) ∙ sym (named.arrays_in-Two names op a b)))
+      let form = numbering.in_numbers-Two names op a b in
+      let both = subst (λ (y : Numbered). AllKeep ix.index y.accesses) form kept in
+      let left = first (keep_front ix.index (accesses_in names a) (accesses_in names b) both) in
+      let right = second (keep_back ix.index (accesses_in names a) (accesses_in names b) both) in (
+        ap (λ (y : Numbered). numbered_value ix y.tree st) form ∙ meaning.value-Two ix op (numbered names a) (numbered names b) st ∙ (λ i. op2 op (left.0 i) (right.0 i)) ∙ sym (named.value-Two names op a b st),
+        ap (λ (y : Numbered). numbered_arrays y.tree) form ∙ meaning.arrays-Two op (numbered names a) (numbered names b) ∙ (λ i. left.1 i ++ right.1 i) ∙ sym (named.arrays_in-Two names op a b),
+      ))
       (λ c a b zeroth first second kept.
-          let form = numbering.in_numbers-Pick names c a b in
-          let all = subst (λ (y : Numbered). AllKeep ix.index y.accesses) form kept in
-          let both = keep_back ix.index (accesses_in names c) (accesses_in names a ++ accesses_in names b) all in
-          let cond = zeroth (keep_front ix.index (accesses_in names c) (accesses_in names a ++ accesses_in names b) all) in
-          let left = first (keep_front ix.index (accesses_in names a) (accesses_in names b) both) in
-          let right = second (keep_back ix.index (accesses_in names a) (accesses_in names b) both) in
-          (ap (λ (y : Numbered). numbered_value ix y.tree st) form ∙ meaning.value-Pick ix (numbered names c) (numbered names a) (numbered names b) st ∙ (λ i. picked (cond.0 i) (left.0 i) (right.0 i)) ∙ sym (named.value-Pick names c a b st),
-           ap (λ (y : Numbered). numbered_arrays y.tree) form ∙ meaning.arrays-Pick (numbered names c) (numbered names a) (numbered names b) ∙ (λ i. cond.1 i ++ (left.1 i ++ right.1 i)) ∙ sym (named.arrays_in-Pick names c a b)))
+      let form = numbering.in_numbers-Pick names c a b in
+      let all = subst (λ (y : Numbered). AllKeep ix.index y.accesses) form kept in
+      let both = keep_back ix.index (accesses_in names c) (accesses_in names a ++ accesses_in names b) all in
+      let cond = zeroth (keep_front ix.index (accesses_in names c) (accesses_in names a ++ accesses_in names b) all) in
+      let left = first (keep_front ix.index (accesses_in names a) (accesses_in names b) both) in
+      let right = second (keep_back ix.index (accesses_in names a) (accesses_in names b) both) in (
+        ap (λ (y : Numbered). numbered_value ix y.tree st) form ∙ meaning.value-Pick ix (numbered names c) (numbered names a) (numbered names b) st ∙ (λ i. picked (cond.0 i) (left.0 i) (right.0 i)) ∙ sym (named.value-Pick names c a b st),
+        ap (λ (y : Numbered). numbered_arrays y.tree) form ∙ meaning.arrays-Pick (numbered names c) (numbered names a) (numbered names b) ∙ (λ i. cond.1 i ++ (left.1 i ++ right.1 i)) ∙ sym (named.arrays_in-Pick names c a b),
+      ))
       (λ f args held kept.
-          let form = numbering.in_numbers-Call names f args in
-          let trees : List CheckedExpr = map (λ (a : Numbered). a.tree) (map (in_numbers names) args) in
-          let all = same_all args held (subst (λ (y : Numbered). AllKeep ix.index y.accesses) form kept) in
-          (ap (λ (y : Numbered). numbered_value ix y.tree st) form ∙ same_number (hash_kind f) trees _ all.0 ∙ sym (named.value-Call names f args st),
-           ap (λ (y : Numbered). numbered_arrays y.tree) form ∙ call_arrays (hash_kind f) trees ∙ all.1 ∙ sym (named.arrays_in-Call names f args)))
+      let form = numbering.in_numbers-Call names f args in
+      let trees : List CheckedExpr = map (λ (a : Numbered). a.tree) (map (in_numbers names) args) in
+      let all = same_all args held (subst (λ (y : Numbered). AllKeep ix.index y.accesses) form kept) in (
+        ap (λ (y : Numbered). numbered_value ix y.tree st) form ∙ same_number (hash_kind f) trees _ all.0 ∙ sym (named.value-Call names f args st),
+        ap (λ (y : Numbered). numbered_arrays y.tree) form ∙ call_arrays (hash_kind f) trees ∙ all.1 ∙ sym (named.arrays_in-Call names f args),
+      ))
       (λ a held kept.
-          let form = numbering.in_numbers-Group names a in
-          let part = held (subst (λ (y : Numbered). AllKeep ix.index y.accesses) form kept) in
-          (ap (λ (y : Numbered). numbered_value ix y.tree st) form ∙ part.0 ∙ sym (named.value-Group names a st),
-           ap (λ (y : Numbered). numbered_arrays y.tree) form ∙ part.1 ∙ sym (named.arrays_in-Group names a)))
+      let form = numbering.in_numbers-Group names a in
+      let part = held (subst (λ (y : Numbered). AllKeep ix.index y.accesses) form kept) in (
+        ap (λ (y : Numbered). numbered_value ix y.tree st) form ∙ part.0 ∙ sym (named.value-Group names a st),
+        ap (λ (y : Numbered). numbered_arrays y.tree) form ∙ part.1 ∙ sym (named.arrays_in-Group names a),
+      ))
 
 -- ---- statements
 
@@ -296,33 +308,34 @@ module _ (names : Names) (ix : Indexing) (lengths : (array : List ℕ) → ix.le
   same_step : (x : Stmt) → SameStep x
   same_step = statements.induct SameStep SameArm
       (λ t x kept s.
-          ap (λ (y : CheckedStmt). numbered_step ix y s) (numbering.numbered_stmt-Set names t x)
-          ∙ same_set t x s (subst (AllKeep ix.index) (numbering.stmt_accesses-Set names t x) kept)
-          ∙ sym (executed.step-Set names t x s))
+      ap (λ (y : CheckedStmt). numbered_step ix y s) (numbering.numbered_stmt-Set names t x)
+      ∙ same_set t x s (subst (AllKeep ix.index) (numbering.stmt_accesses-Set names t x) kept)
+      ∙ sym (executed.step-Set names t x s))
       (λ arms held kept s.
-          let all = subst (AllKeep ix.index) (numbering.stmt_accesses-If names arms ∙ append-nil (numbers.in_turn (map (arm_accesses names) arms))) kept in
-          ap (λ (y : CheckedStmt). numbered_step ix y s) (numbering.numbered_stmt-If names arms)
-          ∙ meaning.step-If ix (map (numbered_arm names) arms) s
-          ∙ same_chain arms held all None None (λ t. refl) s
-          ∙ sym (executed.step-If names arms s))
+      let all = subst (AllKeep ix.index) (numbering.stmt_accesses-If names arms ∙ append-nil (numbers.in_turn (map (arm_accesses names) arms))) kept in
+      ap (λ (y : CheckedStmt). numbered_step ix y s) (numbering.numbered_stmt-If names arms)
+      ∙ meaning.step-If ix (map (numbered_arm names) arms) s
+      ∙ same_chain arms held all None None (λ t. refl) s
+      ∙ sym (executed.step-If names arms s))
       (λ arms body held inside kept s.
-          let all = subst (AllKeep ix.index) (numbering.stmt_accesses-Else names arms body) kept in
-          let front = keep_front ix.index (numbers.in_turn (map (arm_accesses names) arms)) (block_accesses names body) all in
-          let back = keep_back ix.index (numbers.in_turn (map (arm_accesses names) arms)) (block_accesses names body) all in
-          ap (λ (y : CheckedStmt). numbered_step ix y s) (numbering.numbered_stmt-Else names arms body)
-          ∙ meaning.step-Else ix (map (numbered_arm names) arms) (map (numbered_stmt names) body) s
-          ∙ same_chain arms held front (Some (map (numbered_step ix) (map (numbered_stmt names) body))) (Some (map (step names) body)) (same_block body inside back) s
-          ∙ sym (executed.step-Else names arms body s))
+      let all = subst (AllKeep ix.index) (numbering.stmt_accesses-Else names arms body) kept in
+      let front = keep_front ix.index (numbers.in_turn (map (arm_accesses names) arms)) (block_accesses names body) all in
+      let back = keep_back ix.index (numbers.in_turn (map (arm_accesses names) arms)) (block_accesses names body) all in
+      ap (λ (y : CheckedStmt). numbered_step ix y s) (numbering.numbered_stmt-Else names arms body)
+      ∙ meaning.step-Else ix (map (numbered_arm names) arms) (map (numbered_stmt names) body) s
+      ∙ same_chain arms held front (Some (map (numbered_step ix) (map (numbered_stmt names) body))) (Some (map (step names) body)) (same_block body inside back) s
+      ∙ sym (executed.step-Else names arms body s))
       (λ cond body inside kept.
-          let all = subst (AllKeep ix.index) (numbering.arm_accesses-Arm names cond body) kept in
-          let front = keep_front ix.index (accesses_in names cond) (block_accesses names body) all in
-          let back = keep_back ix.index (accesses_in names cond) (block_accesses names body) all in
-          let mine : numbered_choice ix (numbered_arm names (record { cond = cond; body = body })) ≡ record { holds = λ st. truth (numbered_value ix (numbered names cond) st); arrays = numbered_arrays (numbered names cond); block = in_turn (map (numbered_step ix) (map (numbered_stmt names) body)) } =
-          ap (numbered_choice ix) (numbering.numbered_arm-Arm names cond body) ∙ meaning.choice-Arm ix (numbered names cond) (map (numbered_stmt names) body) in
-          let theirs = executed.choice-Arm names cond body in
-          ((λ st. ap (λ (c : Choice). c.holds st) mine ∙ ap truth (same_value names ix lengths st cond front).0 ∙ sym (ap (λ (c : Choice). c.holds st) theirs)),
-           ap (λ (c : Choice). c.arrays) mine ∙ (same_value names ix lengths nowhere cond front).1 ∙ sym (ap (λ (c : Choice). c.arrays) theirs),
-           (λ s. ap (λ (c : Choice). c.block s) mine ∙ same_block body inside back s ∙ sym (ap (λ (c : Choice). c.block s) theirs))))
+      let all = subst (AllKeep ix.index) (numbering.arm_accesses-Arm names cond body) kept in
+      let front = keep_front ix.index (accesses_in names cond) (block_accesses names body) all in
+      let back = keep_back ix.index (accesses_in names cond) (block_accesses names body) all in
+      let mine : numbered_choice ix (numbered_arm names (record { cond = cond; body = body })) ≡ record { holds = λ st. truth (numbered_value ix (numbered names cond) st); arrays = numbered_arrays (numbered names cond); block = in_turn (map (numbered_step ix) (map (numbered_stmt names) body)) } =
+      ap (numbered_choice ix) (numbering.numbered_arm-Arm names cond body) ∙ meaning.choice-Arm ix (numbered names cond) (map (numbered_stmt names) body) in
+      let theirs = executed.choice-Arm names cond body in (
+        (λ st. ap (λ (c : Choice). c.holds st) mine ∙ ap truth (same_value names ix lengths st cond front).0 ∙ sym (ap (λ (c : Choice). c.holds st) theirs)),
+        ap (λ (c : Choice). c.arrays) mine ∙ (same_value names ix lengths nowhere cond front).1 ∙ sym (ap (λ (c : Choice). c.arrays) theirs),
+        (λ s. ap (λ (c : Choice). c.block s) mine ∙ same_block body inside back s ∙ sym (ap (λ (c : Choice). c.block s) theirs)),
+      ))
 
   all_steps : (body : List Stmt) → Each SameStep body
   all_steps [] = tt

@@ -103,15 +103,16 @@ indexes_more n xs x table new plain within kept is = (
   λ a below.
       ap (λ t. get_or t a None) is
       ∙ elim (eqb_tells x.array a) [
-        inl same ↦
+        | inl same ↦
             let here : a < length table = omega (arith, kept.0) in
             (λ i. get_or (noted (get_or table (same.1 i) None) table (same.1 i) x.index) a None)
             ∙ noted_here (get_or table a None) table a x.index here refl
             ∙ (λ i. pushed (kept.1 a below i) (sym same.0 i) x.index)
-      | inr other ↦
+        | inr other ↦
             noted_there (get_or table x.array None) table x.array a x.index (λ e. other.1 (sym e))
             ∙ pushed_other (get_or table a None) x.index
-            ∙ (λ i. pushed (kept.1 a below i) (sym other.0 i) x.index) ]
+            ∙ (λ i. pushed (kept.1 a below i) (sym other.0 i) x.index)
+      ]
       ∙ sym (index_of-push xs x a plain),
 )
 
@@ -137,9 +138,11 @@ pub keep_more : (n : ℕ) (xs : List Access) (x : Access) (table : List (Option 
     → AllKeep (index_of xs) xs → Agrees (get_or table x.array None) x.index → AllKeep (index_of (xs ++ x ∷ [])) (xs ++ x ∷ [])
 keep_more n xs x table plain within indexes kept agrees =
     let here = agreed (get_or table x.array None) x.index agrees in
-    keep_push (index_of (xs ++ x ∷ [])) xs x (keep_earlier xs x xs plain kept)
-    (here.0, here.1,
-     index_of-push xs x x.array plain ∙ (λ i. pushed (sym (indexes.1 x.array within) i) (eq-eqb x.array x.array refl i) x.index) ∙ here.2)
+    keep_push (index_of (xs ++ x ∷ [])) xs x (keep_earlier xs x xs plain kept) (
+      here.0,
+      here.1,
+      index_of-push xs x x.array plain ∙ (λ i. pushed (sym (indexes.1 x.array within) i) (eq-eqb x.array x.array refl i) x.index) ∙ here.2,
+    )
 
 -- an access that has the index of the first is not amiss
 pub fine_more : (arrays : List Array) (n : ℕ) (xs : List Access) (x : Access) (table : List (Option CheckedExpr)) → x.array < n → AreIndexes xs n table

@@ -70,9 +70,19 @@ fn number_expr(
             let cond = number_expr(alloc, scope, cond.get(), accesses)?;
             let a = number_expr(alloc, scope, a.get(), accesses)?;
             let b = number_expr(alloc, scope, b.get(), accesses)?;
-            Ok(CheckedExpr::Pick(Boxed::new(alloc, cond)?, Boxed::new(alloc, a)?, Boxed::new(alloc, b)?))
+            Ok(CheckedExpr::Pick(
+                Boxed::new(alloc, cond)?,
+                Boxed::new(alloc, a)?,
+                Boxed::new(alloc, b)?,
+            ))
         }
-        Expr::Call(function, args) => number_call(alloc, scope, function, args.as_slice(), accesses),
+        Expr::Call(function, args) => number_call(
+            alloc,
+            scope,
+            function,
+            args.as_slice(),
+            accesses,
+        ),
         Expr::Group(a) => number_expr(alloc, scope, a.get(), accesses),
     }
 }
@@ -138,7 +148,10 @@ fn number_access(
     let mut inside = Vec::new(alloc);
     let tree = number_expr(alloc, scope, index, &mut inside)?;
     if inside.is_empty() {
-        accesses.push(Access { array, index: Some(tree) })?;
+        accesses.push(Access {
+            array,
+            index: Some(tree),
+        })?;
     } else {
         accesses.push(Access { array, index: None })?;
     }
@@ -146,7 +159,11 @@ fn number_access(
 }
 
 // A defined name is its number; another word is a register, whose access goes to the end of the list.
-fn number_word(scope: &Scope<'_>, name: &Name, accesses: &mut Vec<Access>) -> Result<CheckedExpr, AllocError>
+fn number_word(
+    scope: &Scope<'_>,
+    name: &Name,
+    accesses: &mut Vec<Access>,
+) -> Result<CheckedExpr, AllocError>
     ensures tree { IfOk result (λ tree. tree ≡ (numbered_word (number_of name.now scope.now.defines) (array_number scope.now name.now)).tree) }
     ensures accesses { OnOk result (accesses.new.items ≡ accesses.old.items ++ (numbered_word (number_of name.now scope.now.defines) (array_number scope.now name.now)).accesses) }
 {
@@ -164,7 +181,10 @@ fn number_word(scope: &Scope<'_>, name: &Name, accesses: &mut Vec<Access>) -> Re
 fn push_register(accesses: &mut Vec<Access>, array: u32) -> Result<(), AllocError>
     ensures { OnOk result (accesses.new.items ≡ accesses.old.items ++ (register_at array ∷ [])) }
 {
-    accesses.push(Access { array, index: Some(CheckedExpr::Number(0)) })?;
+    accesses.push(Access {
+        array,
+        index: Some(CheckedExpr::Number(0)),
+    })?;
     Ok(())
 }
 

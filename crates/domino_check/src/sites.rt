@@ -81,10 +81,10 @@ fn push_field(
 ) -> Result<(), AllocError>
     ensures { OnOk result (out.new.items ≡ out.old.items ++ (record { arrays = numbered_arrays expr.now; field = Some field } ∷ [])) }
 {
-    let mut arrays = Items::new(alloc);
-    push_arrays(&mut arrays, expr)?;
+    let mut read = Items::new(alloc);
+    push_arrays(&mut read, expr)?;
     out.push(Site {
-        arrays,
+        arrays: read,
         field: Some(field),
     })?;
     Ok(())
@@ -194,11 +194,7 @@ fn mark(touched: &mut [bool], array: usize)
 }
 
 // The first array that a site moves, where it assigns a field.
-fn moved_by(
-    touched: &[bool],
-    indexes: &[Option<CheckedExpr>],
-    field: Option<u32>,
-) -> Option<usize>
+fn moved_by(touched: &[bool], indexes: &[Option<CheckedExpr>], field: Option<u32>) -> Option<usize>
     ensures { MovedBy touched.now indexes.now field result }
 {
     match field {

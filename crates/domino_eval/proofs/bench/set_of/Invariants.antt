@@ -1,0 +1,7 @@
+-- the last marks as a number
+use Rattle.std.proofs.Common.{◌≡◌, ◌-◌, drop}
+use Rattle.domino_eval.specs.Parts.{bits}
+use Rattle.domino_eval.proofs.bench.set_of.Given as goal
+
+abbrev pub invariant-loop-k : goal.invariant-loop-k
+invariant-loop-k l = l.set ≡ bits (drop (l.count - l.k) l.touched)

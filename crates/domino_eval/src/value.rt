@@ -1,0 +1,210 @@
+//! The value of an expression in numbers.
+ghost use Rattle.std.specs.Prelude.{◌≡◌, ◌∷◌, [], ℕ, List, ℤ, map, flat_map};
+ghost use Rattle.domino_tree.specs.Value.{Store, word_at, cells_at, picked};
+ghost use Rattle.domino_tree.specs.Execution.{touching};
+ghost use Rattle.domino_check.specs.NumberedMeaning.{indexing, hash_all, plain_value, place, numbered_value, numbered_arrays};
+ghost use Rattle.domino_eval.specs.Parts.{store};
+
+use domino_check::{Checked, CheckedExpr};
+use mp5_words::{HashKind, apply1, apply2, cell_of, hash};
+use sqlite_items::Items;
+
+/// The word at a place; 0 past them all.
+fn word_at(words: &[i32], place: usize) -> i32
+    ensures { result ≡ word_at words.now place }
+{
+    words.get(place).copied().unwrap_or(0)
+}
+
+// The first word where the condition is true, else the second.
+fn picked(cond: i32, a: i32, b: i32) -> i32
+    ensures { result ≡ picked cond a b }
+{
+    if cond != 0 { a } else { b }
+}
+
+// The value of an index, on the fields alone.
+#[cycle(plain_value)]
+fn plain_value(expr: &CheckedExpr, fields: &[i32]) -> i32
+    ensures { result ≡ plain_value expr.now fields.now }
+{
+    match expr {
+        CheckedExpr::Number(number) => *number,
+        CheckedExpr::Field(field) => word_at(fields, *field as usize),
+        CheckedExpr::Cell(_) => 0,
+        CheckedExpr::One(op, a) => apply1(*op, plain_value(a.get(), fields)),
+        CheckedExpr::Two(op, a, b) => apply2(
+            *op,
+            plain_value(a.get(), fields),
+            plain_value(b.get(), fields),
+        ),
+        CheckedExpr::Pick(cond, a, b) => picked(
+            plain_value(cond.get(), fields),
+            plain_value(a.get(), fields),
+            plain_value(b.get(), fields),
+        ),
+        CheckedExpr::Hash(kind, args) => plain_hash(*kind, args.as_slice(), fields),
+    }
+}
+
+// The hash of the arguments.
+#[cycle(plain_value)]
+fn plain_hash(kind: HashKind, args: &[CheckedExpr], fields: &[i32]) -> i32
+    ensures { result ≡ hash_all kind (map (λ (a : List ℤ → ℤ). a fields.now) (map plain_value args.now)) }
+{
+    hash(
+        kind,
+        plain_argument(args, 0, fields),
+        plain_argument(args, 1, fields),
+        plain_argument(args, 2, fields),
+    )
+}
+
+// The value of an argument; 0 past them all.
+#[cycle(plain_value)]
+fn plain_argument(args: &[CheckedExpr], place: usize, fields: &[i32]) -> i32
+    ensures { result ≡ word_at (map (λ (a : List ℤ → ℤ). a fields.now) (map plain_value args.now)) place }
+{
+    if place < args.len() {
+        plain_value(&args[place], fields)
+    } else {
+        0
+    }
+}
+
+/// The place of the cell of an array that its index names.
+pub(crate) fn place_of(checked: &Checked, array: u32, fields: &[i32]) -> usize
+    ensures { result ≡ place (indexing checked.now) array fields.now }
+{
+    let arrays = checked.arrays();
+    if array as usize >= arrays.len() {
+        return 0;
+    }
+    match checked.index(array) {
+        Some(index) => cell_of(plain_value(index, fields), arrays[array as usize].length) as usize,
+        None => 0,
+    }
+}
+
+/// These arrays are touched: the array is marked. Past them all nothing is marked.
+pub(crate) fn mark(touched: &mut [bool], array: u32)
+    ensures { touched.new ≡ touching (array ∷ []) touched.old }
+{
+    let array = array as usize;
+    if array < touched.len() {
+        touched[array] = true;
+    }
+}
+
+// The word of an array's cell that its index names.
+fn cell_value(checked: &Checked, array: u32, fields: &[i32], cells: &[Items<i32>]) -> i32
+    ensures { result ≡ word_at (cells_at cells.now array) (place (indexing checked.now) array fields.now) }
+{
+    let place = place_of(checked, array, fields);
+    let array = array as usize;
+    if array < cells.len() {
+        word_at(cells[array].as_slice(), place)
+    } else {
+        0
+    }
+}
+
+/// The value of an expression.
+#[cycle(value)]
+pub(crate) fn value(
+    checked: &Checked,
+    expr: &CheckedExpr,
+    fields: &[i32],
+    cells: &[Items<i32>],
+) -> i32
+    ensures { result ≡ numbered_value (indexing checked.now) expr.now (store fields.now cells.now) }
+{
+    match expr {
+        CheckedExpr::Number(number) => *number,
+        CheckedExpr::Field(field) => word_at(fields, *field as usize),
+        CheckedExpr::Cell(array) => cell_value(checked, *array, fields, cells),
+        CheckedExpr::One(op, a) => apply1(*op, value(checked, a.get(), fields, cells)),
+        CheckedExpr::Two(op, a, b) => apply2(
+            *op,
+            value(checked, a.get(), fields, cells),
+            value(checked, b.get(), fields, cells),
+        ),
+        CheckedExpr::Pick(cond, a, b) => picked(
+            value(checked, cond.get(), fields, cells),
+            value(checked, a.get(), fields, cells),
+            value(checked, b.get(), fields, cells),
+        ),
+        CheckedExpr::Hash(kind, args) => {
+            hash_value(checked, *kind, args.as_slice(), fields, cells)
+        }
+    }
+}
+
+// The hash of the arguments.
+#[cycle(value)]
+fn hash_value(
+    checked: &Checked,
+    kind: HashKind,
+    args: &[CheckedExpr],
+    fields: &[i32],
+    cells: &[Items<i32>],
+) -> i32
+    ensures { result ≡ hash_all kind (map (λ (a : Store → ℤ). a (store fields.now cells.now)) (map (numbered_value (indexing checked.now)) args.now)) }
+{
+    hash(
+        kind,
+        argument(checked, args, 0, fields, cells),
+        argument(checked, args, 1, fields, cells),
+        argument(checked, args, 2, fields, cells),
+    )
+}
+
+// The value of an argument; 0 past them all.
+#[cycle(value)]
+fn argument(
+    checked: &Checked,
+    args: &[CheckedExpr],
+    place: usize,
+    fields: &[i32],
+    cells: &[Items<i32>],
+) -> i32
+    ensures { result ≡ word_at (map (λ (a : Store → ℤ). a (store fields.now cells.now)) (map (numbered_value (indexing checked.now)) args.now)) place }
+{
+    if place < args.len() {
+        value(checked, &args[place], fields, cells)
+    } else {
+        0
+    }
+}
+
+/// The arrays in an expression are touched.
+#[cycle(touch_expr)]
+pub(crate) fn touch_expr(touched: &mut [bool], expr: &CheckedExpr)
+    ensures { touched.new ≡ touching (numbered_arrays expr.now) touched.old }
+{
+    match expr {
+        CheckedExpr::Number(_) | CheckedExpr::Field(_) => {}
+        CheckedExpr::Cell(array) => mark(touched, *array),
+        CheckedExpr::One(_, a) => touch_expr(touched, a.get()),
+        CheckedExpr::Two(_, a, b) => {
+            touch_expr(touched, a.get());
+            touch_expr(touched, b.get());
+        }
+        CheckedExpr::Pick(cond, a, b) => {
+            touch_expr(touched, cond.get());
+            touch_expr(touched, a.get());
+            touch_expr(touched, b.get());
+        }
+        CheckedExpr::Hash(_, args) => touch_all(touched, args.as_slice()),
+    }
+}
+
+// The arrays in the arguments are touched.
+#[cycle(touch_expr)]
+fn touch_all(touched: &mut [bool], args: &[CheckedExpr])
+    ensures { touched.new ≡ touching (flat_map (λ (a : List ℕ). a) (map numbered_arrays args.now)) touched.old }
+{
+    for arg in args {
+        touch_expr(touched, arg);
+    }
+}
