@@ -18,3 +18,4 @@ pub mod Deciding
 pub mod ExpressionsStops
 pub mod ExpressionsForms
 pub mod ExpressionsLevels
+pub mod Texts

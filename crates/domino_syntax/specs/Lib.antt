@@ -10,3 +10,4 @@ pub mod ReadingPrograms
 pub mod Weighing
 pub mod Printing
 pub mod Stuck
+pub mod ProgramText

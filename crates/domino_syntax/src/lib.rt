@@ -10,8 +10,13 @@ mod fault;
 mod lex;
 mod operators;
 mod parse;
+mod read;
 mod reader;
 mod statements;
 mod weigh;
 
 pub use fault::TextFault;
+pub use read::read_program;
+
+#[cfg(test)]
+mod tests;
