@@ -1,10 +1,10 @@
 -- The parser of programs decides the grammar, tells the place of an error, and no token list has two trees.
 use mathlib.Core.HLevel.{Σ_prop_path}
-use Rattle.std.proofs.Common.{◌≡◌, ◌<◌, ◌≤◌, ◌+◌, ◌-◌, ℕ, true, Bool, ◌&&◌, List, [], ◌∷◌, ◌++◌, length, take, drop, length-drop, inl, inr, Option, Some, None, Ok, Err, IfOk, refl, ap, sym, subst, ◌∙◌, append_assoc, length-append, arith}
+use Rattle.std.proofs.Common.{◌≡◌, ◌<◌, ◌≤◌, ◌+◌, ◌-◌, ℕ, true, ◌&&◌, List, [], ◌∷◌, ◌++◌, length, take, drop, length-drop, inl, inr, Option, Some, None, Ok, Err, IfOk, refl, ap, sym, subst, ◌∙◌, append_assoc, length-append, arith}
 use Rattle.std.proofs.Math.Bool.{Bool-set}
 use Rattle.std.specs.List.{list_all}
 use Rattle.std.proofs.lemmas.Bool.{and_from, and_parts}
-use Rattle.std.proofs.lemmas.List.{append-nil, take-append-drop}
+use Rattle.std.proofs.lemmas.List.{take-append-drop}
 use Rattle.std.proofs.Math.Seq.{take-append_seam, take-append-add}
 use Rattle.std.proofs.lemmas.List.Folds.{list_all-append}
 use Rattle.domino_tree.specs.declared.token.Token.{Token}
@@ -16,17 +16,15 @@ use Rattle.domino_tree.specs.declared.program.Start.{Start}
 use Rattle.domino_tree.specs.declared.program.Start.TheVariants as starts
 use Rattle.domino_tree.specs.declared.program.Item.{Item}
 use Rattle.domino_tree.specs.declared.program.Item.TheVariants as items_of
-use Rattle.domino_tree.specs.declared.program.PacketDecl.{PacketDecl}
-use Rattle.domino_tree.specs.declared.program.Function.{Function}
 use Rattle.domino_tree.specs.declared.program.Program.{Program}
-use Rattle.domino_tree.specs.Grammar.{is_name, is_size, size_tokens, is_length, length_tokens, is_start, is_item, packet_tokens, is_packet, function_tokens, is_function, is_program, program_tokens}
+use Rattle.domino_tree.specs.Grammar.{is_name, is_size, is_length, length_tokens, is_start, is_item, packet_tokens, is_packet, function_tokens, is_function, is_program, program_tokens}
 use Rattle.domino_tree.specs.Weight.{is_light}
-use Rattle.domino_tree.specs.Derives.{IsValue, IsEntry, IsStart, IsItem, AreItems, none, more, Parts, Derives, Begins}
+use Rattle.domino_tree.specs.Derives.{IsValue, IsEntry, IsStart, IsItem, AreItems, none, more, Derives, Begins}
 use Rattle.domino_syntax.specs.Tokens.{is_token}
 use Rattle.domino_syntax.specs.Parsers.{Outcome, Parser, first, and_then, pure, end}
 use Rattle.domino_syntax.specs.ReadingPrograms.{items, packet, function, parts}
 use Rattle.domino_syntax.specs.Stuck.{IsStuckAt}
-use Rattle.domino_syntax.proofs.Exact.{Named, Exactly, Breaks, whole_sound, whole_breaks, whole_unique}
+use Rattle.domino_syntax.proofs.Exact.{Named, Breaks, whole_sound, whole_breaks, whole_unique}
 use Rattle.domino_syntax.proofs.NamedTokens.{program_named}
 use Rattle.domino_syntax.proofs.ExactPrograms.{Four, PartsForm, exact_parts}
 
@@ -74,7 +72,7 @@ module _ (tokens rest : List Token) (b : Breaks PartsForm tokens rest) (n : ℕ)
   stuck_at (t ∷ l) same less begun =
       let front : take (n + 1) tokens ≡ b.used ++ t ∷ [] = ap (take (n + 1)) (b.parts ∙ ap (λ r. b.used ++ r) same) ∙ take_next b.used l t n is in
       let whole : PartsForm (b.used ++ (t ∷ begun.more)) (begun.before, begun.packet, begun.after, begun.function) =
-          subst (λ l. PartsForm l (begun.before, begun.packet, begun.after, begun.function)) (ap (λ l. l ++ begun.more) front ∙ append_assoc b.used (t ∷ []) begun.more) begun.derived in
+      subst (λ l. PartsForm l (begun.before, begun.packet, begun.after, begun.function)) (ap (λ l. l ++ begun.more) front ∙ append_assoc b.used (t ∷ []) begun.more) begun.derived in
       b.none (t ∷ begun.more) (begun.before, begun.packet, begun.after, begun.function) (ap first (sym same)) whole
 
   at_end : (l : List Token) → rest ≡ l → n ≡ length tokens → (x : Four) → ¬ PartsForm tokens x
@@ -155,7 +153,7 @@ parts_named tokens x h =
     let two = and_parts (list_all is_token (packet_tokens x.1)) (list_all is_token (function_tokens x.3)) (sym (list_all-append is_token (packet_tokens x.1) (function_tokens x.3)) ∙ bare) in
     ap (list_all is_token) h.spells
     ∙ named_append h.front (packet_tokens x.1 ++ (h.middle ++ function_tokens x.3)) (items_named h.front x.0 h.items_before holds.0)
-        (named_append (packet_tokens x.1) (h.middle ++ function_tokens x.3) two.0 (named_append h.middle (function_tokens x.3) (items_named h.middle x.2 h.items_after last.0) two.1))
+    (named_append (packet_tokens x.1) (h.middle ++ function_tokens x.3) two.0 (named_append h.middle (function_tokens x.3) (items_named h.middle x.2 h.items_after last.0) two.1))
 
 -- ---- one tree
 

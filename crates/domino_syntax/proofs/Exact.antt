@@ -82,24 +82,36 @@ exact_below m le exact = record { reads = λ tokens few named. exact.reads token
 
 -- ---- the same grammar in other words, and where a form may end in fewer places
 
-module _ {A : Type 0} (G H : Grammar A) (stops fewer : Stops) (to : (used : List Token) (x : A) → G used x → H used x) (from : (used : List Token) (x : A) → H used x → G used x) (narrower : (t : Option Token) → fewer t ≡ true → stops t ≡ true) where
-  exactly_as : (tokens : List Token) (o : Outcome A) → Exactly G stops tokens o → Exactly H fewer tokens o
-  exactly_as tokens (Ok r) f = record {
+-- what a list begins with is what any list with the same next token begins with
+same_next : (tokens used rest more front back : List Token) → tokens ≡ used ++ rest → first more ≡ first rest → used ++ more ≡ front ++ back → first (front ++ back) ≡ first tokens
+same_next tokens used rest more front back parts next is = ap first (sym is) ∙ (first_after used more rest next ∙ ap first (sym parts))
+
+-- Each form of the one grammar is one of the other. A form of the other is one of the first where it stands at the
+-- front of a list that begins as this list does.
+module _ {A : Type 0} (G H : Grammar A) (stops fewer : Stops) (tokens : List Token)
+    (to : (used : List Token) (x : A) → G used x → H used x)
+    (from : (front back : List Token) (x : A) → first (front ++ back) ≡ first tokens → H front x → fewer (first back) ≡ true → G front x × (stops (first back) ≡ true)) where
+  exactly_as : (o : Outcome A) → Exactly G stops tokens o → Exactly H fewer tokens o
+  exactly_as (Ok r) f = record {
     used = f.used;
     parts = f.parts;
     form = to f.used r.0 f.form;
-    only = λ more front back y next is h stop. f.only more front back y next is (from front y h) (narrower (first back) stop);
+    only = λ more front back y next is h stop.
+        let g = from front back y (same_next tokens f.used r.1 more front back f.parts next is) h stop in
+        f.only more front back y next is g.0 g.1;
   }
-  exactly_as tokens (Err rest) f = record {
+  exactly_as (Err rest) f = record {
     used = f.used;
     parts = f.parts;
     begins = (f.begins.0, f.begins.1, to (f.used ++ f.begins.0) f.begins.1 f.begins.2);
-    none = λ more front back y next is h stop. f.none more front back y next is (from front y h) (narrower (first back) stop);
+    none = λ more front back y next is h stop.
+        let g = from front back y (same_next tokens f.used rest more front back f.parts next is) h stop in
+        f.none more front back y next is g.0 g.1;
   }
 
 pub exact_narrower : {A : Type 0} {n : ℕ} {p : Parser A} {G : Grammar A} {stops : Stops} (H : Grammar A) (fewer : Stops) → Exact n p G stops → ((used : List Token) (x : A) → G used x → H used x) → ((used : List Token) (x : A) → H used x → G used x) → ((t : Option Token) → fewer t ≡ true → stops t ≡ true) → Exact n p H fewer
 exact_narrower {p = p} {G = G} {stops = stops} H fewer exact to from narrower = record {
-  reads = λ tokens few named. exactly_as G H stops fewer to from narrower tokens (p tokens) (exact.reads tokens few named);
+  reads = λ tokens few named. exactly_as G H stops fewer tokens to (λ front back x begins h stop. (from front x h, narrower (first back) stop)) (p tokens) (exact.reads tokens few named);
 }
 
 pub exact_as : {A : Type 0} {n : ℕ} {p : Parser A} {G : Grammar A} {stops : Stops} (H : Grammar A) → Exact n p G stops → ((used : List Token) (x : A) → G used x → H used x) → ((used : List Token) (x : A) → H used x → G used x) → Exact n p H stops
@@ -303,70 +315,22 @@ exact_behind exact second long some = exact_after exact second (λ used x h. ome
 abbrev pub Either : {A : Type 0} → Grammar A → Grammar A → Grammar A
 Either G H used x = G used x ⊎ H used x
 
-module _ {A : Type 0} (begins : Stops) (G H : Grammar A) (stops : Stops) (starts : (used rest : List Token) (x : A) → G used x → stops (first rest) ≡ true → begins (first (used ++ rest)) ≡ true) (others : (used rest : List Token) (x : A) → H used x → stops (first rest) ≡ true → begins (first (used ++ rest)) ≡ false) where
-  -- what a list begins with is what any list with the same next token begins with
-  same_next : (tokens used rest more front back : List Token) → tokens ≡ used ++ rest → first more ≡ first rest → used ++ more ≡ front ++ back → first (front ++ back) ≡ first tokens
-  same_next tokens used rest more front back parts next is = ap first (sym is) ∙ (first_after used more rest next ∙ ap first (sym parts))
+module _ {A : Type 0} (begins : Stops) (G H : Grammar A) (stops : Stops) (starts : (used rest : List Token) (x : A) → G used x → stops (first rest) ≡ true → begins (first (used ++ rest)) ≡ true) (others : (used rest : List Token) (x : A) → H used x → stops (first rest) ≡ true → begins (first (used ++ rest)) ≡ false) (tokens : List Token) where
+  is_one : begins (first tokens) ≡ true → (front back : List Token) (x : A) → first (front ++ back) ≡ first tokens → Either G H front x → stops (first back) ≡ true → G front x × (stops (first back) ≡ true)
+  is_one sees front back x same (inl h) stop = (h, stop)
+  is_one sees front back x same (inr h) stop =
+      let e : false ≡ true = sym (others front back x h stop) ∙ (ap begins same ∙ sees) in
+      cc
 
-  exactly_one : (tokens : List Token) (o : Outcome A) → begins (first tokens) ≡ true → Exactly G stops tokens o → Exactly (Either G H) stops tokens o
-  exactly_one tokens (Ok r) sees f = record {
-    used = f.used;
-    parts = f.parts;
-    form = inl f.form;
-    only = λ more front back y next is h stop. either_only more front back y next is h stop;
-  }
-    where
-      either_only : (more front back : List Token) (y : A) → first more ≡ first r.1 → f.used ++ more ≡ front ++ back → Either G H front y → stops (first back) ≡ true → (front ≡ f.used) × (y ≡ r.0)
-      either_only more front back y next is (inl h) stop = f.only more front back y next is h stop
-      either_only more front back y next is (inr h) stop =
-          let e = others front back y h stop in
-          let e2 : begins (first (front ++ back)) ≡ true = ap begins (same_next tokens f.used r.1 more front back f.parts next is) ∙ sees in
-          cc
-  exactly_one tokens (Err rest) sees f = record {
-    used = f.used;
-    parts = f.parts;
-    begins = (f.begins.0, f.begins.1, inl f.begins.2);
-    none = λ more front back y next is h stop. either_none more front back y next is h stop;
-  }
-    where
-      either_none : (more front back : List Token) (y : A) → first more ≡ first rest → f.used ++ more ≡ front ++ back → Either G H front y → stops (first back) ≡ true → ⊥
-      either_none more front back y next is (inl h) stop = f.none more front back y next is h stop
-      either_none more front back y next is (inr h) stop =
-          let e = others front back y h stop in
-          let e2 : begins (first (front ++ back)) ≡ true = ap begins (same_next tokens f.used rest more front back f.parts next is) ∙ sees in
-          cc
+  is_other : begins (first tokens) ≡ false → (front back : List Token) (x : A) → first (front ++ back) ≡ first tokens → Either G H front x → stops (first back) ≡ true → H front x × (stops (first back) ≡ true)
+  is_other sees front back x same (inl h) stop =
+      let e : true ≡ false = sym (starts front back x h stop) ∙ (ap begins same ∙ sees) in
+      cc
+  is_other sees front back x same (inr h) stop = (h, stop)
 
-  exactly_other : (tokens : List Token) (o : Outcome A) → begins (first tokens) ≡ false → Exactly H stops tokens o → Exactly (Either G H) stops tokens o
-  exactly_other tokens (Ok r) sees f = record {
-    used = f.used;
-    parts = f.parts;
-    form = inr f.form;
-    only = λ more front back y next is h stop. either_only more front back y next is h stop;
-  }
-    where
-      either_only : (more front back : List Token) (y : A) → first more ≡ first r.1 → f.used ++ more ≡ front ++ back → Either G H front y → stops (first back) ≡ true → (front ≡ f.used) × (y ≡ r.0)
-      either_only more front back y next is (inr h) stop = f.only more front back y next is h stop
-      either_only more front back y next is (inl h) stop =
-          let e = starts front back y h stop in
-          let e2 : begins (first (front ++ back)) ≡ false = ap begins (same_next tokens f.used r.1 more front back f.parts next is) ∙ sees in
-          cc
-  exactly_other tokens (Err rest) sees f = record {
-    used = f.used;
-    parts = f.parts;
-    begins = (f.begins.0, f.begins.1, inr f.begins.2);
-    none = λ more front back y next is h stop. either_none more front back y next is h stop;
-  }
-    where
-      either_none : (more front back : List Token) (y : A) → first more ≡ first rest → f.used ++ more ≡ front ++ back → Either G H front y → stops (first back) ≡ true → ⊥
-      either_none more front back y next is (inr h) stop = f.none more front back y next is h stop
-      either_none more front back y next is (inl h) stop =
-          let e = starts front back y h stop in
-          let e2 : begins (first (front ++ back)) ≡ false = ap begins (same_next tokens f.used rest more front back f.parts next is) ∙ sees in
-          cc
-
-  choice_exact : (tokens : List Token) (o l : Outcome A) (b : Bool) → begins (first tokens) ≡ b → Exactly G stops tokens o → Exactly H stops tokens l → Exactly (Either G H) stops tokens (if b then o else l)
-  choice_exact tokens o l true sees f g = exactly_one tokens o sees f
-  choice_exact tokens o l false sees f g = exactly_other tokens l sees g
+  choice_exact : (o l : Outcome A) (b : Bool) → begins (first tokens) ≡ b → Exactly G stops tokens o → Exactly H stops tokens l → Exactly (Either G H) stops tokens (if b then o else l)
+  choice_exact o l true sees f g = exactly_as G (Either G H) stops stops tokens (λ used x h. inl h) (is_one sees) o f
+  choice_exact o l false sees f g = exactly_as H (Either G H) stops stops tokens (λ used x h. inr h) (is_other sees) l g
 
 -- forms of the first kind begin as the test says, and those of the other kind, with what may follow them, don't
 pub exact_choice : {A : Type 0} {n : ℕ} {p q : Parser A} {G H : Grammar A} {stops : Stops} (begins : Stops) → Exact n p G stops → Exact n q H stops → ((used rest : List Token) (x : A) → G used x → stops (first rest) ≡ true → begins (first (used ++ rest)) ≡ true) → ((used rest : List Token) (x : A) → H used x → stops (first rest) ≡ true → begins (first (used ++ rest)) ≡ false) → Exact n (choice begins p q) (Either G H) stops

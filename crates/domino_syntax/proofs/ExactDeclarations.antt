@@ -1,7 +1,8 @@
 -- The parsers of items and of the struct are exact.
-use Rattle.std.proofs.Common.{◌≡◌, ◌≤◌, ◌⊎◌, inl, inr, ℕ, ℤ, Bool, true, false, not, ◌&&◌, List, [], ◌∷◌, ◌++◌, length, Option, Some, None, refl, ap, sym, subst, ◌∙◌, append_assoc, arith}
+use Rattle.std.proofs.Common.{◌≡◌, ◌≤◌, inl, inr, ℕ, ℤ, true, false, not, ◌&&◌, List, [], ◌∷◌, ◌++◌, length, Option, Some, None, refl, ap, sym, subst, ◌∙◌, append_assoc, arith}
 use Rattle.std.specs.List.{list_all, flat_map}
-use Rattle.std.proofs.lemmas.Bool.{and_from, and_parts}
+use Rattle.std.proofs.Math.Bool.{and-true}
+use Rattle.std.proofs.lemmas.Bool.{and_from, and_parts, not-true}
 use Rattle.mp5_words.specs.Words.{op1}
 use Rattle.mp5_words.specs.declared.op.Op1.TheVariants.{Neg}
 use Rattle.domino_tree.specs.declared.token.Token.{Token}
@@ -16,12 +17,12 @@ use Rattle.domino_tree.specs.declared.program.Item.{Item}
 use Rattle.domino_tree.specs.declared.program.Item.TheVariants as items_of
 use Rattle.domino_tree.specs.declared.program.PacketDecl.{PacketDecl}
 use Rattle.domino_tree.specs.Grammar.{is_name, size_tokens, is_size, length_tokens, is_length, is_start, is_item, declaration, packet_tokens, is_packet, in_curly}
-use Rattle.domino_tree.specs.Derives.{IsNegated, IsValue, IsEntry, IsPlain, IsBraced, IsStart, IsDefine, IsArray, IsItem}
-use Rattle.domino_syntax.specs.Parsers.{Parser, first, sees_sign, sees_keyword, sees_define, sees_name}
+use Rattle.domino_tree.specs.Derives.{IsNegated, IsValue, IsEntry, IsStart, IsItem}
+use Rattle.domino_syntax.specs.Parsers.{first, sees_sign, sees_keyword, sees_define, sees_name}
 use Rattle.domino_syntax.specs.ReadingPrograms.{negated, value, word, entry, size, bracketed, cells, braced, plain, start, definition, register, begins_item, item, items, field, fields, packet}
-use Rattle.domino_syntax.proofs.Exact.{Grammar, Stops, anywhere, Exact, exact_as, exact_narrower, exact_map, Image, exact_pure, Nothing, Then, Either, exact_choice, Many, exact_all, By, list_to, list_from}
-use Rattle.domino_syntax.proofs.OneToken.{IsToken, IsName, name_tokens, IsNumber, exact_sign, exact_keyword, exact_define, exact_name, exact_number, Behind, Closed, exact_closed}
-use Rattle.domino_syntax.proofs.Known.{in_turn, behind, Rest, rest_known, rest_token, rest_part, exact_by}
+use Rattle.domino_syntax.proofs.Exact.{Grammar, Stops, anywhere, Exact, exact_as, exact_map, Image, exact_pure, Nothing, Then, Either, exact_choice, Many, exact_all, By, list_to, list_from}
+use Rattle.domino_syntax.proofs.OneToken.{IsName, name_tokens, IsNumber, exact_sign, exact_keyword, exact_define, exact_name, exact_number, Behind, Closed, exact_closed}
+use Rattle.domino_syntax.proofs.Known.{in_turn, behind, rest_known, rest_token, rest_part, exact_by}
 
 -- ---- values, entries and sizes
 
@@ -107,10 +108,6 @@ exact_size =
 abbrev no_sign : Stops
 no_sign t = not (sees_sign signs.OpenSquare t)
 
-not_true : (b : Bool) → not b ≡ true → b ≡ false
-not_true true h = sym h
-not_true false h = refl
-
 abbrev IsBracketed : Grammar (Option Size)
 IsBracketed = Behind (token.Sign signs.OpenSquare) (Closed (token.Sign signs.CloseSquare) Some (By size_tokens is_size))
 
@@ -140,7 +137,7 @@ exact_cells =
     exact_as (By length_tokens is_length)
     (exact_choice (sees_sign signs.OpenSquare) exact_bracketed (exact_pure None)
     (λ used rest x h stop. ap (λ l. sees_sign signs.OpenSquare (first (l ++ rest))) h.text)
-    (λ used rest x h stop. ap (λ l. sees_sign signs.OpenSquare (first (l ++ rest))) h.text ∙ not_true (sees_sign signs.OpenSquare (first rest)) stop))
+    (λ used rest x h stop. ap (λ l. sees_sign signs.OpenSquare (first (l ++ rest))) h.text ∙ not-true (sees_sign signs.OpenSquare (first rest)) stop))
     length_to length_from
 
 -- ---- the start value
@@ -210,7 +207,7 @@ exact_start =
     (λ used rest x h stop. entry_opens_no_brace used rest h.value h.form.form)))
     (exact_pure starts.Absent)
     (λ used rest x h stop. ap (λ l. sees_sign signs.Assign (first (l ++ rest))) h.text)
-    (λ used rest x h stop. ap (λ l. sees_sign signs.Assign (first (l ++ rest))) h.text ∙ not_true (sees_sign signs.Assign (first rest)) stop))
+    (λ used rest x h stop. ap (λ l. sees_sign signs.Assign (first (l ++ rest))) h.text ∙ not-true (sees_sign signs.Assign (first rest)) stop))
     start_to start_from
 
 -- ---- items
@@ -329,7 +326,7 @@ no_item t = not (begins_item t)
 pub exact_items : {n : ℕ} → Exact n items (Many ItemForm) no_item
 unfolding items
 exact_items =
-    exact_all ItemForm {between = anywhere} begins_item no_item exact_item item_long item_begins (λ t h. refl) (λ t h. not_true (begins_item t) h) (λ t h. refl)
+    exact_all ItemForm {between = anywhere} begins_item no_item exact_item item_long item_begins (λ t h. refl) (λ t h. not-true (begins_item t) h) (λ t h. refl)
 
 -- ---- the struct
 
@@ -344,11 +341,7 @@ exact_field =
     (rest_part (λ w. w) name_tokens is_name _ _ _ anywhere exact_name
     (λ w. rest_token (token.Sign signs.Semicolon) (exact_sign signs.Semicolon) (rest_known (λ y. Unit {0} × (y ≡ w)) w (tt, refl) (λ y h. h.1)))
     (λ y rest stop. refl)))
-    (λ y. refl) (λ y. and_true (is_name y))
-  where
-    and_true : (b : Bool) → (b && true) ≡ b
-    and_true true = refl
-    and_true false = refl
+    (λ y. refl) (λ y. and-true (is_name y))
 
 abbrev no_field : Stops
 no_field t = not (sees_keyword keywords.Int t)
@@ -360,7 +353,7 @@ exact_fields =
     (exact_all (By field_tokens is_name) {between = anywhere} (sees_keyword keywords.Int) no_field exact_field
     (λ used x h. omega (arith, ap length h.text))
     (λ used rest x h. ap (λ l. sees_keyword keywords.Int (first (l ++ rest))) h.text)
-    (λ t h. refl) (λ t h. not_true (sees_keyword keywords.Int t) h) (λ t h. refl))
+    (λ t h. refl) (λ t h. not-true (sees_keyword keywords.Int t) h) (λ t h. refl))
     (list_to field_tokens is_name) (list_from field_tokens is_name)
 
 same_packet : (w : List ℕ) (names : List (List ℕ)) (y : PacketDecl) → y.name ≡ w → y.fields ≡ names → y ≡ record { name = w; fields = names }
@@ -380,8 +373,4 @@ exact_packet =
     (λ y rest stop. refl)))
     (λ y rest stop. refl)))
     (λ y. ap (λ l. token.Keyword keywords.Struct ∷ token.Name y.name ∷ token.Sign signs.OpenCurly ∷ l) (sym (append_assoc (flat_map field_tokens y.fields) (token.Sign signs.CloseCurly ∷ []) (token.Sign signs.Semicolon ∷ []))))
-    (λ y. ap (λ b. is_name y.name && b) (and_true (list_all is_name y.fields)))
-  where
-    and_true : (b : Bool) → (b && true) ≡ b
-    and_true true = refl
-    and_true false = refl
+    (λ y. ap (λ b. is_name y.name && b) (and-true (list_all is_name y.fields)))

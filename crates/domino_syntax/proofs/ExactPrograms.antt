@@ -1,7 +1,8 @@
 -- The parsers of the function and of the four parts of a program are exact.
-use Rattle.std.proofs.Common.{◌≡◌, ℕ, Bool, true, false, not, ◌&&◌, List, [], ◌∷◌, ◌++◌, length, map, Option, refl, ap, sym, subst, ◌∙◌, append_assoc}
+use Rattle.std.proofs.Common.{◌≡◌, ℕ, Bool, true, false, ◌&&◌, List, [], ◌∷◌, ◌++◌, refl, ap, sym, subst, ◌∙◌}
 use Rattle.std.specs.List.{list_all}
 use Rattle.std.specs.Option.{is_none}
+use Rattle.std.proofs.Math.Bool.{and-true}
 use Rattle.std.proofs.lemmas.Bool.{and_from, and_parts}
 use Rattle.std.proofs.lemmas.List.{append-nil}
 use Rattle.domino_tree.specs.declared.token.Token.{Token}
@@ -11,19 +12,15 @@ use Rattle.domino_tree.specs.declared.token.Sign.TheVariants as signs
 use Rattle.domino_tree.specs.declared.program.Item.{Item}
 use Rattle.domino_tree.specs.declared.program.PacketDecl.{PacketDecl}
 use Rattle.domino_tree.specs.declared.program.Function.{Function}
-use Rattle.domino_tree.specs.Grammar.{is_name, is_item, packet_tokens, is_packet, function_tokens, is_function, is_program}
+use Rattle.domino_tree.specs.Grammar.{is_name, is_item, packet_tokens, is_packet, function_tokens, is_function}
 use Rattle.domino_tree.specs.Derives.{AreItems, none, more, Parts}
-use Rattle.domino_syntax.specs.Parsers.{Parser, first}
+use Rattle.domino_syntax.specs.Parsers.{first}
 use Rattle.domino_syntax.specs.ReadingPrograms.{statement, head, function, parts}
 use Rattle.domino_syntax.proofs.Exact.{Grammar, Stops, anywhere, Exact, exact_as, exact_map, Image, IsEnd, exact_end, Then, Many, By}
 use Rattle.domino_syntax.proofs.OneToken.{name_tokens, exact_sign, exact_keyword, exact_name}
-use Rattle.domino_syntax.proofs.Known.{in_turn, Rest, rest_known, rest_token, rest_part, exact_by}
+use Rattle.domino_syntax.proofs.Known.{in_turn, rest_known, rest_token, rest_part, exact_by}
 use Rattle.domino_syntax.proofs.ExactDeclarations.{ItemForm, no_item, exact_items, exact_packet}
 use Rattle.domino_syntax.proofs.ExactStatements.{body_tokens, is_body, exact_block, exact_statement}
-
-and_true : (b : Bool) → (b && true) ≡ b
-and_true true = refl
-and_true false = refl
 
 -- ---- the function
 
@@ -56,7 +53,7 @@ exact_head =
     (λ y rest stop. refl))))
     (λ y rest stop. refl)))
     (λ y. refl)
-    (λ y. ap (λ b. is_name y.0 && (is_name y.1 && b)) (and_true (is_name y.2)))
+    (λ y. ap (λ b. is_name y.0 && (is_name y.1 && b)) (and-true (is_name y.2)))
 
 abbrev names_of : Function → Names
 names_of f = (f.name, f.of, f.packet)
@@ -65,7 +62,7 @@ same_function : (names : Names) (f : Function) → names_of f ≡ names → f �
 same_function names f is = ap (λ (x : Names). record { name = x.0; of = x.1; packet = x.2; body = f.body }) is
 
 function_tests : (name of packet body : Bool) → ((name && (of && packet)) && (body && true)) ≡ (name && (of && (packet && body)))
-function_tests true true true body = and_true body
+function_tests true true true body = and-true body
 function_tests true true false body = refl
 function_tests true false packet body = refl
 function_tests false of packet body = refl
@@ -77,7 +74,7 @@ exact_function n =
     (rest_part names_of head_tokens is_head _ _ _ anywhere exact_head
     (λ names. rest_part (λ (f : Function). f.body) body_tokens is_body _ _ _ anywhere (exact_block (statement n) (exact_statement n))
     (λ body. rest_known (λ (f : Function). (Unit {0} × (names_of f ≡ names)) × (f.body ≡ body)) (record { name = names.0; of = names.1; packet = names.2; body = body }) ((tt, refl), refl)
-        (λ f h. same_function names f h.0.1 ∙ ap (λ body. record { name = names.0; of = names.1; packet = names.2; body = body }) h.1))
+    (λ f h. same_function names f h.0.1 ∙ ap (λ body. record { name = names.0; of = names.1; packet = names.2; body = body }) h.1))
     (λ y rest stop. refl))
     (λ y rest stop. refl))
     (λ f. ap (λ l. head_tokens (names_of f) ++ l) (append-nil (body_tokens f.body)))

@@ -1,13 +1,13 @@
 -- The parsers of statements are exact.
-use Rattle.std.proofs.Common.{◌≡◌, ◌≤◌, ◌⊎◌, inl, inr, ℕ, zero, suc, Bool, true, false, not, ◌&&◌, ◌||◌, List, [], ◌∷◌, ◌++◌, length, map, Option, Some, None, Ok, Err, refl, ap, sym, subst, ◌∙◌, append_assoc, arith, length-append}
+use Rattle.std.proofs.Common.{◌≡◌, ◌≤◌, inl, inr, ℕ, zero, suc, Bool, true, false, not, ◌&&◌, List, [], ◌∷◌, ◌++◌, length, map, Option, Some, None, Ok, Err, refl, ap, sym, subst, ◌∙◌, append_assoc, arith, length-append}
 use Rattle.std.specs.List.{list_all, flat_map}
-use Rattle.std.proofs.lemmas.Bool.{and_from, and_parts}
+use Rattle.std.proofs.Math.Bool.{and-true}
+use Rattle.std.proofs.lemmas.Bool.{and_from, and_parts, not-true}
 use Rattle.std.proofs.lemmas.List.{append-nil}
 use Rattle.std.proofs.lemmas.List.Concat.{flat_map-cons}
 use Rattle.std.proofs.lemmas.List.Folds.{flat_map-map}
 use Rattle.domino_tree.specs.declared.token.Token.{Token}
 use Rattle.domino_tree.specs.declared.token.Token.TheVariants as token
-use Rattle.domino_tree.specs.declared.token.Keyword.{Keyword}
 use Rattle.domino_tree.specs.declared.token.Keyword.TheVariants as keywords
 use Rattle.domino_tree.specs.declared.token.Sign.TheVariants as signs
 use Rattle.domino_tree.specs.declared.expr.Expr.{Expr}
@@ -16,25 +16,16 @@ use Rattle.domino_tree.specs.declared.program.Target.TheVariants as targets
 use Rattle.domino_tree.specs.declared.program.Stmt.{Stmt}
 use Rattle.domino_tree.specs.declared.program.Stmt.TheVariants as stmt
 use Rattle.domino_tree.specs.declared.program.Arm.{Arm}
-use Rattle.domino_tree.specs.Grammar.{is_name, spelled, stands, target_tokens, is_target, in_square, block_tokens, chained, with_elses, last_block, has_arm, all_true, stmt_tokens, is_stmt, arm_tokens, is_arm}
+use Rattle.domino_tree.specs.Grammar.{is_name, spelled, stands, target_tokens, is_target, in_square, block_tokens, with_elses, all_true, stmt_tokens, is_stmt, arm_tokens, is_arm}
 use Rattle.domino_tree.proofs.StmtLemmas as lemmas
-use Rattle.domino_syntax.specs.Parsers.{Parser, first, sees_sign, sees_keyword, sees_name}
-use Rattle.domino_syntax.specs.ReadingExpressions.{expression}
+use Rattle.domino_syntax.specs.Parsers.{Parser, first, sees_sign, sees_keyword}
 use Rattle.domino_syntax.specs.ReadingPrograms.{dotted, indexed, after_name, target, assignment, begins_statement, block, arm, links, conditional, statement}
-use Rattle.domino_syntax.proofs.Exact.{Grammar, Stops, anywhere, Exactly, ReadsForm, Exact, exact_below, exact_as, exact_narrower, exact_map, Image, exact_pure, Nothing, Then, Either, exact_choice, Many, exact_all, By, list_to, list_from, first_none}
+use Rattle.domino_syntax.proofs.Exact.{Grammar, Stops, anywhere, Exactly, Exact, exact_below, exact_as, exact_map, Image, exact_pure, Nothing, Then, Either, exact_choice, Many, exact_all, By, list_to, list_from, first_none}
 use Rattle.domino_syntax.proofs.OneToken.{IsName, name_tokens, exact_sign, exact_keyword, exact_name, Behind, Closed, exact_closed}
 use Rattle.domino_syntax.proofs.Known.{exact_some, in_turn, behind, opened, Rest, rest_known, rest_token, rest_opened, rest_part, exact_by}
 use Rattle.domino_syntax.proofs.ExpressionsStops.{stops_at}
 use Rattle.domino_syntax.proofs.ExpressionsForms.{At}
 use Rattle.domino_syntax.proofs.ExpressionsLevels.{exact_expression}
-
-and_true : (b : Bool) → (b && true) ≡ b
-and_true true = refl
-and_true false = refl
-
-not_true : (b : Bool) → not b ≡ true → b ≡ false
-not_true true h = sym h
-not_true false h = refl
 
 -- any expression
 abbrev is_expression : Expr → Bool
@@ -118,7 +109,7 @@ exact_after_name n w =
     (exact_choice (sees_sign signs.Dot) (exact_dotted w)
     (exact_choice (sees_sign signs.OpenSquare) (exact_indexed n w) (exact_pure (targets.Word w))
     (λ used rest x h stop. ap (λ l. sees_sign signs.OpenSquare (first (l ++ rest))) h.text)
-    (λ used rest x h stop. ap (λ l. sees_sign signs.OpenSquare (first (l ++ rest))) h.text ∙ not_true (sees_sign signs.OpenSquare (first rest)) (both (first rest) stop).1))
+    (λ used rest x h stop. ap (λ l. sees_sign signs.OpenSquare (first (l ++ rest))) h.text ∙ not-true (sees_sign signs.OpenSquare (first rest)) (both (first rest) stop).1))
     (λ used rest x h stop. ap (λ l. sees_sign signs.Dot (first (l ++ rest))) h.text)
     others)
     (suffix_to w) (suffix_from w)
@@ -128,7 +119,7 @@ exact_after_name n w =
 
     others : (used rest : List Token) (x : Target) → Either (IsIndexed w) (Nothing (targets.Word w)) used x → no_suffix (first rest) ≡ true → sees_sign signs.Dot (first (used ++ rest)) ≡ false
     others used rest x (inl h) stop = ap (λ l. sees_sign signs.Dot (first (l ++ rest))) h.text
-    others used rest x (inr h) stop = ap (λ l. sees_sign signs.Dot (first (l ++ rest))) h.text ∙ not_true (sees_sign signs.Dot (first rest)) (both (first rest) stop).0
+    others used rest x (inr h) stop = ap (λ l. sees_sign signs.Dot (first (l ++ rest))) h.text ∙ not-true (sees_sign signs.Dot (first rest)) (both (first rest) stop).0
 
 target_spells : (t : Target) → name_tokens (word_of t) ++ after_word t ≡ target_tokens t
 target_spells (targets.Word w) = refl
@@ -136,7 +127,7 @@ target_spells (targets.Field p f) = refl
 target_spells (targets.Cell a i) = refl
 
 target_tests : (t : Target) → (is_name (word_of t) && holds_after t) ≡ is_target t
-target_tests (targets.Word w) = and_true (is_name w)
+target_tests (targets.Word w) = and-true (is_name w)
 target_tests (targets.Field p f) = refl
 target_tests (targets.Cell a i) = refl
 
@@ -354,7 +345,7 @@ module _ (d : ℕ) (another : Parser Arm) (last : Parser (List Stmt)) (exact_ano
       (λ used rest s h stop. ap (λ l. sees_keyword keywords.If (first (l ++ rest))) h.form.text)))
       (exact_pure (stmt.If arms None))
       (λ used rest s h stop. ap (λ l. sees_keyword keywords.Else (first (l ++ rest))) h.text)
-      (λ used rest s h stop. ap (λ l. sees_keyword keywords.Else (first (l ++ rest))) h.text ∙ not_true (sees_keyword keywords.Else (first rest)) stop))
+      (λ used rest s h stop. ap (λ l. sees_keyword keywords.Else (first (l ++ rest))) h.text ∙ not-true (sees_keyword keywords.Else (first rest)) stop))
       (links_to arms) (links_from arms)
 
   exact_after_arm : (a : Arm) → Exact (suc d) (λ tokens. links another last (length tokens) (a ∷ []) tokens) (IsLinks (a ∷ [])) no_else
@@ -468,7 +459,7 @@ exact_block form exact =
     (λ used s h. stmt_long used s (stmt_from used s h))
     (λ used rest s h. stmt_begins used rest s (stmt_from used s h))
     begins_no_else
-    (λ t h. not_true (begins_statement t) (and_parts (not (begins_statement t)) (no_else t) h).0)
+    (λ t h. not-true (begins_statement t) (and_parts (not (begins_statement t)) (no_else t) h).0)
     (λ t h. (and_parts (not (begins_statement t)) (no_else t) h).1))
     refl (exact_sign signs.CloseCurly)))
     block_to block_from
@@ -489,9 +480,9 @@ exact_arm d form exact =
     (λ y rest stop. refl)))
     (λ y rest stop. refl))))
     (λ a. ap (λ l. token.Keyword keywords.If ∷ token.Sign signs.OpenRound ∷ l)
-        (ap (λ l. spelled a.cond ++ (token.Sign signs.CloseRound ∷ l)) (append-nil (body_tokens a.body)) ∙ sym (append_assoc (spelled a.cond) (token.Sign signs.CloseRound ∷ []) (body_tokens a.body)))
-        ∙ sym (arm_is a))
-    (λ a. ap (λ b. is_expression a.cond && b) (and_true (is_body a.body)) ∙ sym (lemmas.is_arm-Arm a.cond a.body))
+    (ap (λ l. spelled a.cond ++ (token.Sign signs.CloseRound ∷ l)) (append-nil (body_tokens a.body)) ∙ sym (append_assoc (spelled a.cond) (token.Sign signs.CloseRound ∷ []) (body_tokens a.body)))
+    ∙ sym (arm_is a))
+    (λ a. ap (λ b. is_expression a.cond && b) (and-true (is_body a.body)) ∙ sym (lemmas.is_arm-Arm a.cond a.body))
 
 -- ---- statements
 

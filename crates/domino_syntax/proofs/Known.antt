@@ -1,9 +1,9 @@
 -- Exact parsers of forms that are read part by part, into a value whose parts become known one after another.
-use Rattle.std.proofs.Common.{◌≡◌, ℕ, suc, ◌≤◌, Bool, true, ◌&&◌, List, [], ◌∷◌, ◌++◌, Some, Ok, Err, refl, ap, sym, subst, ◌∙◌, arith}
+use Rattle.std.proofs.Common.{◌≡◌, ℕ, suc, Bool, true, ◌&&◌, List, [], ◌∷◌, ◌++◌, Ok, Err, refl, ap, sym, subst, ◌∙◌, arith}
 use Rattle.std.proofs.lemmas.Bool.{and_from, and_parts}
 use Rattle.domino_tree.specs.declared.token.Token.{Token}
 use Rattle.domino_syntax.specs.Parsers.{Outcome, Parser, first, ◌>>=◌, ◌>>◌, pure}
-use Rattle.domino_syntax.proofs.Exact.{Grammar, Stops, anywhere, Exactly, Exact, exact_as, exact_pure, exact_then, exact_next, Nothing, Then, By, join}
+use Rattle.domino_syntax.proofs.Exact.{Grammar, Stops, anywhere, Exactly, Exact, exact_as, exact_pure, exact_then, exact_next, Then, By, join}
 use Rattle.domino_syntax.proofs.OneToken.{IsToken, Behind, exact_opened}
 
 -- ---- a grammar with a parser has a form

@@ -6,7 +6,7 @@ ghost use Rattle.domino_syntax.specs.Parsers.{Reads, first};
 
 use crate::reader::{Reader, Stop};
 use domino_tree::{Item, Keyword, PacketDecl, Sign, Size, Start};
-use mp5_words::{apply1, Name, Op1};
+use mp5_words::{Name, Op1, apply1};
 use sqlite_items::Items;
 use std::alloc::Global;
 

@@ -1,7 +1,7 @@
 use Rattle.std.proofs.Common.{◌≡◌, ◌-◌, ◌+◌, suc, true, length, Ok, arith}
 use Rattle.domino_tree.specs.declared.token.Keyword.TheVariants.{Int}
 use Rattle.domino_syntax.specs.Parsers.{first, sees_keyword}
-use Rattle.domino_syntax.specs.ReadingPrograms.{begins_item, field}
+use Rattle.domino_syntax.specs.ReadingPrograms.{field}
 use Rattle.domino_syntax.proofs.Turns.{all_turn}
 use Rattle.domino_syntax.proofs.declarations.fields.Goals as goal
 

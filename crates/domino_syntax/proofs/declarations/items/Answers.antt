@@ -1,6 +1,5 @@
 use Rattle.std.proofs.Common.{◌≡◌, ◌-◌, ◌+◌, suc, true, length, Ok, arith}
-use Rattle.domino_tree.specs.declared.token.Keyword.TheVariants.{Int}
-use Rattle.domino_syntax.specs.Parsers.{first, sees_keyword}
+use Rattle.domino_syntax.specs.Parsers.{first}
 use Rattle.domino_syntax.specs.ReadingPrograms.{begins_item, item}
 use Rattle.domino_syntax.proofs.Turns.{all_turn}
 use Rattle.domino_syntax.proofs.declarations.items.Goals as goal

@@ -1,6 +1,5 @@
 use Rattle.std.proofs.Common.{◌≡◌, ◌-◌, length}
-use Rattle.domino_tree.specs.declared.token.Keyword.TheVariants.{Int}
-use Rattle.domino_syntax.specs.Parsers.{repeat, adding, sees_keyword}
+use Rattle.domino_syntax.specs.Parsers.{repeat, adding}
 use Rattle.domino_syntax.specs.ReadingPrograms as spec
 use Rattle.domino_syntax.proofs.declarations.items.Given as goal
 

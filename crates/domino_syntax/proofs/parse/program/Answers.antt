@@ -1,4 +1,4 @@
-use Rattle.std.proofs.Common.{◌≡◌, ◌-◌, length, Ok, Err, ap, sym, subst, ◌∙◌}
+use Rattle.std.proofs.Common.{◌≡◌, ◌-◌, length, Err, ap, sym, subst, ◌∙◌}
 use Rattle.domino_syntax.specs.ReadingPrograms.{parts}
 use Rattle.domino_syntax.specs.Stuck.{IsStuckAt}
 use Rattle.domino_syntax.proofs.Weighing.{canonical_light}
@@ -39,7 +39,7 @@ returns-in-Err-Syntax-clause-complete c = λ program derived.
     let refused : parts (length tokens) c.new-reader.result ≡ Err c.parts.new.reader = rw c.in-Err-Syntax.field-0-is at c.in-Err-Syntax.ensures in
     let read = ap (parts (length tokens)) (sym c.new-reader.ensures) ∙ refused in
     absurd (deciding.stuck_none tokens (length tokens - length c.parts.new.reader) program
-      (deciding.refused_at tokens c.parts.new.reader c.requires.named read) derived)
+    (deciding.refused_at tokens c.parts.new.reader c.requires.named read) derived)
 
 pub returns-in-Ok-clause-one_tree : goal.returns-in-Ok-clause-one_tree
 returns-in-Ok-clause-one_tree c = deciding.one_tree

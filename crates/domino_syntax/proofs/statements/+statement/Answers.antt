@@ -1,4 +1,4 @@
-use Rattle.std.proofs.Common.{◌≡◌, ◌-◌, ◌+◌, suc, true, false, length, ◌++◌, Ok, ◌∙◌, ap, sym, arith}
+use Rattle.std.proofs.Common.{◌≡◌, ◌-◌, ◌+◌, suc, true, false, length, Ok, ◌∙◌, ap, sym, arith}
 use Rattle.domino_tree.specs.declared.token.Keyword.TheVariants as keywords
 use Rattle.domino_syntax.specs.Parsers.{first, keyword, sees_keyword}
 use Rattle.domino_syntax.specs.ReadingPrograms.{begins_statement, statement, arm, block, links}
@@ -48,8 +48,8 @@ conditional-returns-in_err-keyword t c =
     let another = arm c.args.depth (statement c.args.depth) in
     let last = block (statement c.args.depth) in
     passes_on (keyword keywords.Else c.loop-turn.reader) _ c.in_err-keyword.field-0.0 _ _ c.from_residual-in_err-keyword.ensures.1
-        (λ e. c.loop-turn.invariant ∙ else_refused another last c.loop-turn.arms c.loop-turn.reader n m is_suc sees _ e)
-        c.in_err-keyword.ensures
+    (λ e. c.loop-turn.invariant ∙ else_refused another last c.loop-turn.arms c.loop-turn.reader n m is_suc sees _ e)
+    c.in_err-keyword.ensures
 
 pub conditional-returns-in_err-last : goal.conditional-returns-in_err-last
 conditional-returns-in_err-last t c =
@@ -61,8 +61,8 @@ conditional-returns-in_err-last t c =
     let last = block (statement c.args.depth) in
     let other : sees_keyword keywords.If (first c.keyword.new.self) ≡ false = cc in
     passes_on (last c.keyword.new.self) _ c.in_err-last.field-0.0 _ _ c.from_residual-in_err-last.ensures.1
-        (λ e. c.loop-turn.invariant ∙ last_refused another last c.loop-turn.arms c.loop-turn.reader n m is_suc sees _ c.keyword.new.self c.in_ok-keyword.ensures other e)
-        c.in_err-last.ensures
+    (λ e. c.loop-turn.invariant ∙ last_refused another last c.loop-turn.arms c.loop-turn.reader n m is_suc sees _ c.keyword.new.self c.in_ok-keyword.ensures other e)
+    c.in_err-last.ensures
 
 pub conditional-returns-then-not-sees_keyword-2 : goal.conditional-returns-then-not-sees_keyword-2
 conditional-returns-then-not-sees_keyword-2 t c =
@@ -85,8 +85,8 @@ conditional-returns-in_err-arm-2 t c =
     let last = block (statement c.args.depth) in
     let again : sees_keyword keywords.If (first c.keyword.new.self) ≡ true = cc in
     passes_on (another c.keyword.new.self) _ c.in_err-arm-2.field-0.0 _ _ c.from_residual-in_err-arm-2.ensures.1
-        (λ e. c.loop-turn.invariant ∙ arm_refused another last c.loop-turn.arms c.loop-turn.reader n m is_suc sees _ c.keyword.new.self c.in_ok-keyword.ensures again e)
-        c.in_err-arm-2.ensures
+    (λ e. c.loop-turn.invariant ∙ arm_refused another last c.loop-turn.arms c.loop-turn.reader n m is_suc sees _ c.keyword.new.self c.in_ok-keyword.ensures again e)
+    c.in_err-arm-2.ensures
 
 pub conditional-loop-turn-preserved : goal.conditional-loop-turn-preserved
 conditional-loop-turn-preserved t c =
