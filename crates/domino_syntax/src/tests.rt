@@ -534,15 +534,11 @@ fn finds_an_operator_too_many_at_each_depth(rt: HostRuntime) -> Result<(), Fail>
 
 #[test]
 fn counts_anew_after_a_statement(rt: HostRuntime) -> Result<(), Fail> {
-    let alloc = rt.alloc();
-    let statement = nested(alloc, 63, "", "p.a=a", "+a")?;
-    let mut body = String::new(alloc);
-    for _turn in 0..3 {
-        body.push_str(&statement)?;
-        body.push(';')?;
-    }
-    let read = read_program(alloc, executing(alloc, &body)?.as_bytes());
-    assert!(rt; read.is_ok());
+    let statement = nested(rt.alloc(), 63, "", "p.a=a", "+a")?;
+    let ended = nested(rt.alloc(), 1, &statement, ";", "")?;
+    let body = nested(rt.alloc(), 3, &ended, "", "")?;
+    let text = executing(rt.alloc(), &body)?;
+    assert!(rt; read_program(rt.alloc(), text.as_bytes()).is_ok());
     Ok(())
 }
 
@@ -581,16 +577,26 @@ fn reads_brackets_in_blocks(rt: HostRuntime) -> Result<(), Fail> {
     Ok(())
 }
 
-#[test]
-fn keeps_the_length(rt: HostRuntime) -> Result<(), Fail> {
-    let alloc = rt.alloc();
+/// A program with spaces behind it, so many bytes together.
+fn padded(alloc: Global, bytes: usize) -> Result<String, AllocError> {
     let mut text = executing(alloc, "")?;
-    for _turn in text.len()..65536 {
+    for _turn in text.len()..bytes {
         text.push(' ')?;
     }
+    Ok(text)
+}
+
+#[test]
+fn reads_a_text_of_full_length(rt: HostRuntime) -> Result<(), Fail> {
+    let text = padded(rt.alloc(), 65536)?;
     assert_eq!(rt; text.len(), 65536);
-    assert!(rt; read_program(alloc, text.as_bytes()).is_ok());
-    text.push(' ')?;
-    assert_eq!(rt; answer(alloc, &text)?.as_str(), "1 65537");
+    assert!(rt; read_program(rt.alloc(), text.as_bytes()).is_ok());
+    Ok(())
+}
+
+#[test]
+fn refuses_a_byte_more(rt: HostRuntime) -> Result<(), Fail> {
+    let text = padded(rt.alloc(), 65537)?;
+    assert_eq!(rt; answer(rt.alloc(), &text)?.as_str(), "1 65537");
     Ok(())
 }
