@@ -1,6 +1,6 @@
 -- A text is read to one program, or refused for one thing.
-use Rattle.std.proofs.Common.{◌≡◌, ◌≢◌, ◌⊎◌, inl, inr, ◌≤◌, ◌<◌, ℕ, zero, suc, ◌+◌, ◌-◌, nat_le, Bool, true, false, ◌&&◌, List, [], ◌∷◌, ◌++◌, length, take, drop, Option, Result, Ok, Err, IfOk, IfErr, refl, sym, ap, subst, ◌∙◌, append_assoc, length-append, arith}
-use Rattle.std.proofs.lemmas.Bool.{leb-true, and_parts, cases_order, true≢false}
+use Rattle.std.proofs.Common.{◌≡◌, ◌≢◌, ◌⊎◌, inl, inr, ◌≤◌, ◌<◌, ℕ, zero, suc, ◌+◌, nat_le, true, List, [], ◌∷◌, ◌++◌, length, take, drop, Result, Ok, Err, IfOk, IfErr, refl, sym, ap, subst, ◌∙◌, append_assoc, length-append, arith}
+use Rattle.std.proofs.lemmas.Bool.{leb-true, and_parts, cases_order}
 use Rattle.std.proofs.lemmas.List.{take-take, take-append-drop, length-take}
 use Rattle.std.specs.List.{fold}
 use Rattle.domino_tree.specs.declared.token.Token.{Token}
@@ -13,13 +13,13 @@ use Rattle.domino_tree.proofs.Canonical.{canonical}
 use Rattle.domino_syntax.specs.declared.fault.TextFault.{TextFault}
 use Rattle.domino_syntax.specs.declared.fault.TextFault.TheVariants as fault
 use Rattle.domino_syntax.specs.declared.lex.Piece.TheVariants as piece_of
-use Rattle.domino_syntax.specs.Tokens.{tokens, placed, cut, piece}
+use Rattle.domino_syntax.specs.Tokens.{tokens, placed, cut}
 use Rattle.domino_syntax.specs.Pieces.{ArePieces}
 use Rattle.domino_syntax.specs.Pieces.ArePieces.{none, blank, more}
 use Rattle.domino_syntax.specs.Printing.{AreWords}
 use Rattle.domino_syntax.specs.Weighing.{IsHeavyAt}
 use Rattle.domino_syntax.specs.Stuck.{IsStuckAt, Sticks}
-use Rattle.domino_syntax.specs.ProgramText.{HasTokens, IsProgramText, IsHeavyText, IsStuckText, Refuses, IsReadAs, IsRefusedFor}
+use Rattle.domino_syntax.specs.ProgramText.{HasTokens, IsProgramText, Refuses, IsReadAs, IsRefusedFor}
 use Rattle.domino_syntax.proofs.LexLemmas.{IsPiece, piece_is}
 use Rattle.domino_syntax.proofs.Deciding.{one_tree}
 use Rattle.domino_syntax.proofs.PieceLemmas.{pieces_have_tokens, tokens_have_pieces}

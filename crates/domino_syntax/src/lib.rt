@@ -1,7 +1,7 @@
 //! The reader of program texts: tokens, and a parser whose answers are exactly the grammar's.
 //!
 //! `read_program` takes a text of any bytes and gives its tree. Its contract says which tree, that no
-//! text has two, and that a text is refused only where it has none.
+//! text has two, and for what and at which place a text is refused.
 #![tactic(auto)]
 
 mod declarations;

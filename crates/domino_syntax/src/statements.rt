@@ -1,4 +1,7 @@
 //! The parsers of statements.
+//!
+//! `depth` bounds how deep blocks and expressions stand in one another. Each takes a token, so the number
+//! of the tokens is enough.
 
 ghost use Rattle.domino_syntax.specs.ReadingPrograms as spec;
 ghost use Rattle.std.specs.Prelude.{◌≡◌};
@@ -78,7 +81,7 @@ fn begins_statement(reader: &Reader<'_>) -> bool
     reader.sees_keyword(Keyword::If) || reader.sees_name()
 }
 
-/// Statements of this depth at most, in a row.
+/// Statements in a row.
 #[cycle(statement)]
 #[tactic(auto, unfolding(crate::specs::Parsers::repeat))]
 fn body(alloc: Global, reader: &mut Reader<'_>, depth: usize) -> Result<Items<Stmt>, Stop>

@@ -391,6 +391,10 @@ fn reads_programs(rt: HostRuntime) -> Result<(), Fail> {
             "int structs ;\nstruct ints { int voided ; } ;\nvoid iffy ( struct ints elsewhere ) { structs = elsewhere . voided ; }\n",
         ),
         (
+            "#include <domino.h>\n#define SIZE 8 // a size\n#define LEAST -1\nstruct P { int sport; int n; };\nint total; int last = LEAST; int limit = {80}; int seen[SIZE]; int marks[4] = {-1};\nvoid f(struct P p) { total = total + 1; p.n = (p.sport >> 2) % 0x10; seen[p.n] = seen[p.n] + 1; p.n = p.sport > limit ? total : -last; p.n = hash2(p.sport, p.n); if (seen[p.n] > 3 && !marks[0]) { marks[0] = 1; } else if (p.sport == 53) { last = p.sport; } else { } }",
+            "#define SIZE 8\n#define LEAST 4294967295\nstruct P { int sport ; int n ; } ;\nint total ;\nint last = LEAST ;\nint limit = { 80 } ;\nint seen [ SIZE ] ;\nint marks [ 4 ] = { 4294967295 } ;\nvoid f ( struct P p ) { total = total + 1 ; p . n = ( p . sport >> 2 ) % 16 ; seen [ p . n ] = seen [ p . n ] + 1 ; p . n = p . sport > limit ? total : - last ; p . n = hash2 ( p . sport , p . n ) ; if ( seen [ p . n ] > 3 && ! marks [ 0 ] ) { marks [ 0 ] = 1 ; } else if ( p . sport == 53 ) { last = p . sport ; } else { } }\n",
+        ),
+        (
             "struct P{int a;};int c[8];void f(struct P p){if(p.a){c[p.a]=1;}else if(!p.a){}else{if(c[p.a]>2){p.a=0;}}p.a=hash2(p.a,1);}",
             "struct P { int a ; } ;\nint c [ 8 ] ;\nvoid f ( struct P p ) { if ( p . a ) { c [ p . a ] = 1 ; } else if ( ! p . a ) { } else { if ( c [ p . a ] > 2 ) { p . a = 0 ; } } p . a = hash2 ( p . a , 1 ) ; }\n",
         ),
@@ -451,56 +455,76 @@ fn nested(
     Ok(text)
 }
 
+/// Whether a program is read whose field is set to this expression.
+fn is_read(alloc: Global, expression: &str) -> Result<bool, AllocError> {
+    let text = assigning(alloc, expression)?;
+    Ok(read_program(alloc, text.as_bytes()).is_ok())
+}
+
+/// What stands before and behind an operand, and the answer where it stands there 64 times.
+const HEAVY: [(&str, &str, &str); 10] = [
+    ("(", ")", "4 83"),
+    ("c[", "]", "4 147"),
+    ("f(", ")", "4 147"),
+    ("-", "", "4 83"),
+    ("!", "", "4 83"),
+    ("~", "", "4 83"),
+    ("a+", "", "4 147"),
+    ("a||", "", "4 147"),
+    ("a?b:", "", "4 273"),
+    ("", "*a", "4 147"),
+];
+
 #[test]
-fn weighs_expressions(rt: HostRuntime) -> Result<(), Fail> {
-    let alloc = rt.alloc();
-    for (open, close, want) in [
-        ("(", ")", "4 83"),
-        ("c[", "]", "4 147"),
-        ("f(", ")", "4 147"),
-        ("-", "", "4 83"),
-        ("!", "", "4 83"),
-        ("~", "", "4 83"),
-        ("a+", "", "4 147"),
-        ("a||", "", "4 147"),
-        ("a?b:", "", "4 273"),
-        ("", "*a", "4 147"),
-    ] {
-        let most = nested(alloc, 63, open, "a", close)?;
-        let read = read_program(alloc, assigning(alloc, &most)?.as_bytes());
-        assert!(rt; read.is_ok(), "63 of {open}");
-        let more = nested(alloc, 64, open, "a", close)?;
-        assert_eq!(rt; shape(alloc, &more)?.as_str(), want, "64 of {open}");
+fn reads_expressions_of_weight_64(rt: HostRuntime) -> Result<(), Fail> {
+    for (open, close, _answer) in HEAVY {
+        let most = nested(rt.alloc(), 63, open, "a", close)?;
+        assert!(rt; is_read(rt.alloc(), &most)?, "63 of {open}");
     }
     Ok(())
 }
 
 #[test]
-fn weighs_blocks(rt: HostRuntime) -> Result<(), Fail> {
-    let alloc = rt.alloc();
-    for (open, close, want) in [("if(a){", "}", "4 332"), ("if(a){}else{", "}", "4 521")] {
-        let most = executing(alloc, &nested(alloc, 63, open, "", close)?)?;
-        let read = read_program(alloc, most.as_bytes());
-        assert!(rt; read.is_ok(), "63 of {open}");
-        let more = executing(alloc, &nested(alloc, 64, open, "", close)?)?;
-        assert_eq!(rt; answer(alloc, &more)?.as_str(), want, "64 of {open}");
+fn refuses_expressions_of_weight_65(rt: HostRuntime) -> Result<(), Fail> {
+    for (open, close, want) in HEAVY {
+        let more = nested(rt.alloc(), 64, open, "a", close)?;
+        assert_eq!(rt; shape(rt.alloc(), &more)?.as_str(), want, "64 of {open}");
     }
     Ok(())
+}
+
+#[test]
+fn refuses_blocks_of_weight_65(rt: HostRuntime) -> Result<(), Fail> {
+    for (open, want) in [("if(a){", "4 332"), ("if(a){}else{", "4 521")] {
+        let more = nested(rt.alloc(), 64, open, "", "}")?;
+        let text = executing(rt.alloc(), &more)?;
+        assert_eq!(rt; answer(rt.alloc(), &text)?.as_str(), want, "64 of {open}");
+    }
+    Ok(())
+}
+
+/// A sum of so many operators in so many brackets.
+fn deep_sum(alloc: Global, depth: usize, operators: usize) -> Result<String, AllocError> {
+    let sum = nested(alloc, operators, "", "a", "+a")?;
+    nested(alloc, depth, "(", &sum, ")")
 }
 
 #[test]
 fn weighs_operators_at_each_depth(rt: HostRuntime) -> Result<(), Fail> {
-    let alloc = rt.alloc();
     for depth in 0..64 {
-        let sum = nested(alloc, 63 - depth, "", "a", "+a")?;
-        let most = assigning(alloc, &nested(alloc, depth, "(", &sum, ")")?)?;
-        let read = read_program(alloc, most.as_bytes());
-        assert!(rt; read.is_ok(), "at depth {depth}");
-        let sum = nested(alloc, 64 - depth, "", "a", "+a")?;
-        let more = nested(alloc, depth, "(", &sum, ")")?;
-        let want = format!(in alloc; "4 {}", 147 - depth)?;
+        let most = deep_sum(rt.alloc(), depth, 63 - depth)?;
+        assert!(rt; is_read(rt.alloc(), &most)?, "at depth {depth}");
+    }
+    Ok(())
+}
+
+#[test]
+fn finds_an_operator_too_many_at_each_depth(rt: HostRuntime) -> Result<(), Fail> {
+    for depth in 0..64 {
+        let more = deep_sum(rt.alloc(), depth, 64 - depth)?;
+        let want = format!(in rt.alloc(); "4 {}", 147 - depth)?;
         assert_eq!(rt;
-            shape(alloc, &more)?.as_str(),
+            shape(rt.alloc(), &more)?.as_str(),
             want.as_str(),
             "at depth {depth}"
         );
@@ -510,29 +534,69 @@ fn weighs_operators_at_each_depth(rt: HostRuntime) -> Result<(), Fail> {
 
 #[test]
 fn counts_anew_after_a_statement(rt: HostRuntime) -> Result<(), Fail> {
-    let alloc = rt.alloc();
-    let sum = nested(alloc, 63, "p.a=", "", "")?;
-    assert!(rt; read_program(alloc, executing(alloc, &sum)?.as_bytes()).is_err());
-    let statement = nested(alloc, 63, "", "p.a=a", "+a")?;
-    let mut body = String::new(alloc);
-    for _turn in 0..3 {
-        body.push_str(&statement)?;
-        body.push(';')?;
-    }
-    assert!(rt; read_program(alloc, executing(alloc, &body)?.as_bytes()).is_ok());
+    let statement = nested(rt.alloc(), 63, "", "p.a=a", "+a")?;
+    let ended = nested(rt.alloc(), 1, &statement, ";", "")?;
+    let body = nested(rt.alloc(), 3, &ended, "", "")?;
+    let text = executing(rt.alloc(), &body)?;
+    assert!(rt; read_program(rt.alloc(), text.as_bytes()).is_ok());
     Ok(())
 }
 
 #[test]
-fn keeps_the_length(rt: HostRuntime) -> Result<(), Fail> {
-    let alloc = rt.alloc();
+fn reads_brackets_of_all_kinds(rt: HostRuntime) -> Result<(), Fail> {
+    // Brackets and operators within one another, 63 together.
+    let inner = nested(rt.alloc(), 3, "(", "a", ")")?;
+    let value = nested(rt.alloc(), 15, "(c[f(-", &inner, ")])")?;
+    assert!(rt; is_read(rt.alloc(), &value)?);
+    Ok(())
+}
+
+/// So many brackets around a value that is assigned within so many blocks.
+fn deep_statement(alloc: Global, blocks: usize, brackets: usize) -> Result<String, AllocError> {
+    let mut inner = String::new(alloc);
+    inner.push_str("p.a=")?;
+    for _turn in 0..brackets {
+        inner.push('(')?;
+    }
+    inner.push('a')?;
+    for _turn in 0..brackets {
+        inner.push(')')?;
+    }
+    inner.push(';')?;
+    nested(alloc, blocks, "if(a){", &inner, "}")
+}
+
+#[test]
+fn reads_brackets_in_blocks(rt: HostRuntime) -> Result<(), Fail> {
+    for blocks in 0..64 {
+        let body = deep_statement(rt.alloc(), blocks, 63 - blocks)?;
+        let text = executing(rt.alloc(), &body)?;
+        let read = read_program(rt.alloc(), text.as_bytes());
+        assert!(rt; read.is_ok(), "in {blocks} blocks");
+    }
+    Ok(())
+}
+
+/// A program with spaces behind it, so many bytes together.
+fn padded(alloc: Global, bytes: usize) -> Result<String, AllocError> {
     let mut text = executing(alloc, "")?;
-    for _turn in text.len()..65536 {
+    for _turn in text.len()..bytes {
         text.push(' ')?;
     }
+    Ok(text)
+}
+
+#[test]
+fn reads_a_text_of_full_length(rt: HostRuntime) -> Result<(), Fail> {
+    let text = padded(rt.alloc(), 65536)?;
     assert_eq!(rt; text.len(), 65536);
-    assert!(rt; read_program(alloc, text.as_bytes()).is_ok());
-    text.push(' ')?;
-    assert_eq!(rt; answer(alloc, &text)?.as_str(), "1 65537");
+    assert!(rt; read_program(rt.alloc(), text.as_bytes()).is_ok());
+    Ok(())
+}
+
+#[test]
+fn refuses_a_byte_more(rt: HostRuntime) -> Result<(), Fail> {
+    let text = padded(rt.alloc(), 65537)?;
+    assert_eq!(rt; answer(rt.alloc(), &text)?.as_str(), "1 65537");
     Ok(())
 }
