@@ -1,4 +1,16 @@
 pub mod CountLemmas
 pub mod FirstLemmas
+pub mod ScopeLemmas
+pub mod NumberingLemmas
+pub mod IndexLemmas
+pub mod MeaningLemmas
 pub mod NumberLemmas
 pub mod TableLemmas
+pub mod Agreement
+pub mod SiteLemmas
+pub mod CheckedLemmas
+pub mod DeclaredLemmas
+pub mod BelowLemmas
+pub mod PartsLemmas
+pub mod RefusedLemmas
+pub mod AssemblyLemmas

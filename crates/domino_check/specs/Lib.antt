@@ -1,6 +1,13 @@
 pub mod First
+pub mod Infos
+pub mod Numbering
+pub mod Indexes
+pub mod NumberedMeaning
 pub mod Uses
 pub mod Declarations
 pub mod Checks
 pub mod Tables
 pub mod Numbers
+pub mod Sites
+pub mod Accepted
+pub mod Refused

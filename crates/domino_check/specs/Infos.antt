@@ -1,0 +1,41 @@
+-- What a program declares, as the checked program keeps it: each array with whether it is a register, and the
+-- defined names.
+use Rattle.std.specs.Prelude.{ℕ, ℤ, Bool, true, false, List, [], ◌∷◌, ◌++◌, map, flat_map, Option, Some, None}
+use Rattle.domino_tree.specs.declared.program.Size.{Size}
+use Rattle.domino_tree.specs.declared.program.Item.{Item}
+use Rattle.domino_tree.specs.declared.program.Item.TheVariants as item
+use Rattle.domino_tree.specs.declared.program.Program.{Program}
+use Rattle.domino_tree.specs.Value.{Names, Defined, Array, item_define, length_value, start_value, names_of}
+use Rattle.domino_check.specs.declared.numbered.ArrayInfo.{ArrayInfo}
+use Rattle.domino_check.specs.declared.scope.Define.{Define}
+
+-- whether no length is declared
+abbrev pub is_scalar : Option Size → Bool
+is_scalar None = true
+is_scalar (Some s) = false
+
+-- the array that an item declares, if it does
+abbrev pub item_info : List Defined → Item → List ArrayInfo
+item_info defines (item.Define name value) = []
+item_info defines (item.Array name length start) = record {
+  name = name;
+  length = length_value defines length;
+  scalar = is_scalar length;
+  start = start_value defines start;
+} ∷ []
+
+-- the arrays of a program in order of declaration
+abbrev pub infos_of : Program → List ArrayInfo
+infos_of p = flat_map (item_info (flat_map item_define (p.before ++ p.after))) (p.before ++ p.after)
+
+-- an array without whether it is a register
+abbrev pub array_of : ArrayInfo → Array
+array_of i = record { name = i.name; length = i.length; start = i.start }
+
+-- a defined name and its number
+abbrev pub defined_of : Define → Defined
+defined_of d = record { name = d.name; number = d.number }
+
+-- the names that these lists declare
+abbrev pub names_from : List Define → List (List ℕ) → List ArrayInfo → Names
+names_from defines fields arrays = record { defines = map defined_of defines; fields = fields; arrays = map array_of arrays }
