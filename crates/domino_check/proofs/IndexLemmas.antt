@@ -11,7 +11,7 @@ use Rattle.domino_check.specs.declared.numbered.CheckedExpr.{CheckedExpr}
 use Rattle.domino_check.specs.declared.numbering.Access.{Access}
 use Rattle.domino_check.specs.First.{FirstFault, NoFault}
 use Rattle.domino_check.specs.Infos.{array_of}
-use Rattle.domino_check.specs.Indexes.{index_of, IsOther, Agrees, Keeps, AllKeep, array_name, IndexDiffersAt, AreIndexes, AreBelow, indexes_of, noted}
+use Rattle.domino_check.specs.Indexes.{index_of, IsOther, Agrees, Keeps, AllKeep, IsUntouched, array_name, IndexDiffersAt, AreIndexes, AreBelow, indexes_of, noted}
 use Rattle.domino_check.proofs.ScopeLemmas.{array_names}
 use Rattle.domino_check.proofs.FirstLemmas.{none_with, first_at}
 
@@ -166,3 +166,24 @@ pub differs_first : (arrays : List Array) (n : ℕ) (all xs : List Access) (x : 
 differs_first arrays n all xs x table f within kept front turn fine other is =
     first_at (IndexDiffersAt arrays) all (length xs) x f turn.0 turn.1 (subst (NoFault (IndexDiffersAt arrays)) front fine)
     (subst (λ (before : List Access). IndexDiffersAt arrays before x f) front (subst (λ s. IsOther s x.index) (kept.1 x.array within) other, is))
+
+-- ---- arrays that are touched nowhere
+
+some≢none : (i : CheckedExpr) → Some i ≡ None → ⊥
+some≢none i e = cc
+
+pub untouched_from_none : (index : ℕ → Option CheckedExpr) (xs : List Access) (a : ℕ) → AllKeep index xs → index_of xs a ≡ None → IsUntouched xs a
+untouched_from_none index [] a kept none = tt
+untouched_from_none index (x ∷ xs) a kept none =
+    elim (eqb_tells x.array a) [
+      | inl same ↦ absurd (some≢none kept.0.0 (sym kept.0.1 ∙ sym (λ i. if same.0 i then x.index else index_of xs a) ∙ none))
+      | inr other ↦ (other.1, untouched_from_none index xs a kept.1 (sym (λ i. if other.0 i then x.index else index_of xs a) ∙ none))
+    ]
+
+pub none_from_untouched : (xs : List Access) (a : ℕ) → IsUntouched xs a → index_of xs a ≡ None
+none_from_untouched [] a untouched = refl
+none_from_untouched (x ∷ xs) a untouched =
+    elim (eqb_tells x.array a) [
+      | inl same ↦ absurd (untouched.0 same.1)
+      | inr other ↦ (λ i. if other.0 i then x.index else index_of xs a) ∙ none_from_untouched xs a untouched.1
+    ]

@@ -1,8 +1,8 @@
-ghost use Rattle.std.specs.Prelude.{◌≡◌, ◌<◌, length};
+ghost use Rattle.std.specs.Prelude.{◌≡◌, ◌<◌, ◌↔◌, length, None};
 ghost use Rattle.std.specs.Option.{option_copied};
 ghost use Rattle.domino_check.specs.Infos.{infos_of};
 ghost use Rattle.domino_check.specs.Numbering.{numbered_body, accesses};
-ghost use Rattle.domino_check.specs.Indexes.{index_of};
+ghost use Rattle.domino_check.specs.Indexes.{index_of, IsUntouched};
 ghost use Rattle.domino_check.specs.Accepted.{Keeps};
 
 use crate::numbered::{ArrayInfo, CheckedExpr, CheckedStmt};
@@ -95,7 +95,8 @@ impl Checked {
     /// The index of an array: that of each of its accesses. None where the array is touched nowhere.
     pub fn index(&self, array: u32) -> Option<&CheckedExpr>
         requires { array < length (infos_of self.now) }
-        ensures { option_copied result ≡ index_of (accesses self.now) array }
+        ensures index { option_copied result ≡ index_of (accesses self.now) array }
+        ensures untouched { (option_copied result ≡ None) ↔ IsUntouched (accesses self.now) array }
     {
         self.indexes.as_slice()[array as usize].as_ref()
     }

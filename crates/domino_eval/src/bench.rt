@@ -90,3 +90,15 @@ fn set_of(touched: &[bool]) -> u16
     }
     set
 }
+
+#[cfg(test)]
+mod tests {
+    use super::*;
+
+    #[test]
+    fn array_a_is_bit_a(rt: HostRuntime) {
+        assert_eq!(rt; set_of(&[]), 0);
+        assert_eq!(rt; set_of(&[true, false, true]), 5);
+        assert_eq!(rt; set_of(&[true; 16]), 65535);
+    }
+}

@@ -208,3 +208,33 @@ fn touch_all(touched: &mut [bool], args: &[CheckedExpr])
         touch_expr(touched, arg);
     }
 }
+
+#[cfg(test)]
+mod tests {
+    use super::*;
+    use mp5_words::Op2;
+    use sqlite_items::Boxed;
+    use std::test::Fail;
+
+    #[test]
+    fn values_an_index_on_the_fields(rt: HostRuntime) -> Result<(), Fail> {
+        let field = Boxed::new(rt.alloc(), CheckedExpr::Field(1))?;
+        let ten = Boxed::new(rt.alloc(), CheckedExpr::Number(10))?;
+        let index = CheckedExpr::Two(Op2::Rem, field, ten);
+        for (fields, want) in [([3, 17], 7), ([17, 3], 3), ([0, -7], -7)] {
+            assert_eq!(rt; plain_value(&index, &fields), want);
+        }
+        Ok(())
+    }
+
+    #[test]
+    fn touches_each_array_that_stands_there(rt: HostRuntime) -> Result<(), Fail> {
+        let last = Boxed::new(rt.alloc(), CheckedExpr::Cell(2))?;
+        let first = Boxed::new(rt.alloc(), CheckedExpr::Cell(0))?;
+        let sum = CheckedExpr::Two(Op2::Add, last, first);
+        let mut touched = [false; 3];
+        touch_expr(&mut touched, &sum);
+        assert_eq!(rt; touched, [true, false, true]);
+        Ok(())
+    }
+}

@@ -1,9 +1,11 @@
-use Rattle.std.proofs.Common.{◌≡◌, ◌<◌, length, None, sym, ap, ◌∙◌, subst, arith}
-use Rattle.domino_tree.specs.declared.program.Program.{Program}
+use Rattle.std.proofs.Common.{None, sym, ap, ◌∙◌, subst}
 use Rattle.std.proofs.lemmas.List.{get_or_read}
-use Rattle.domino_check.specs.Infos.{infos_of}
+use Rattle.domino_check.specs.Accepted.{Keeps}
+use Rattle.domino_check.specs.Numbering.{accesses}
+use Rattle.domino_check.specs.Indexes.{index_of}
 use Rattle.domino_check.specs.Sites.{program_indexes}
 use Rattle.domino_check.proofs.CheckedLemmas.{index_at}
+use Rattle.domino_check.proofs.IndexLemmas.{untouched_from_none, none_from_untouched}
 use Rattle.domino_check.proofs.checked.Checked.index.Goals as goal
 
 pub bounds-as_slice-array : goal.bounds-as_slice-array
@@ -11,10 +13,17 @@ bounds-as_slice-array c =
     let are = c.as_slice.ensures ∙ c.self.invariant.indexes_are ∙ ap program_indexes c.self.view_is in
     (index_at c.args.self.now c.as_slice.result.now c.args.array are c.requires).0
 
-pub returns : goal.returns
-returns c =
+pub returns-clause-index : goal.returns-clause-index
+returns-clause-index c =
     let are = c.as_slice.ensures ∙ c.self.invariant.indexes_are ∙ ap program_indexes c.self.view_is in
     let at = index_at c.args.self.now c.as_slice.result.now c.args.array are c.requires in
-    let value = c.as_ref.ensures.value in
-    let is = c.index-as_slice-array.is in
-    value ∙ get_or_read c.as_slice.result.now c.args.array c.index-as_slice-array.result at.0 is None ∙ at.1
+    c.as_ref.ensures.value ∙ get_or_read c.as_slice.result.now c.args.array c.index-as_slice-array.result at.0 c.index-as_slice-array.is None ∙ at.1
+
+pub returns-clause-untouched : goal.returns-clause-untouched
+returns-clause-untouched c =
+    let p = c.args.self.now in
+    let are = c.as_slice.ensures ∙ c.self.invariant.indexes_are ∙ ap program_indexes c.self.view_is in
+    let at = index_at p c.as_slice.result.now c.args.array are c.requires in
+    let is = c.as_ref.ensures.value ∙ get_or_read c.as_slice.result.now c.args.array c.index-as_slice-array.result at.0 c.index-as_slice-array.is None ∙ at.1 in
+    let keeps = subst Keeps c.self.view_is c.self.invariant.keeps in
+    (λ none. untouched_from_none (index_of (accesses p)) (accesses p) c.args.array keeps.indexed (sym is ∙ none), λ untouched. is ∙ none_from_untouched (accesses p) c.args.array untouched)
