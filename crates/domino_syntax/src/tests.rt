@@ -391,6 +391,10 @@ fn reads_programs(rt: HostRuntime) -> Result<(), Fail> {
             "int structs ;\nstruct ints { int voided ; } ;\nvoid iffy ( struct ints elsewhere ) { structs = elsewhere . voided ; }\n",
         ),
         (
+            "#include <domino.h>\n#define SIZE 8 // a size\n#define LEAST -1\nstruct P { int sport; int n; };\nint total; int last = LEAST; int limit = {80}; int seen[SIZE]; int marks[4] = {-1};\nvoid f(struct P p) { total = total + 1; p.n = (p.sport >> 2) % 0x10; seen[p.n] = seen[p.n] + 1; p.n = p.sport > limit ? total : -last; p.n = hash2(p.sport, p.n); if (seen[p.n] > 3 && !marks[0]) { marks[0] = 1; } else if (p.sport == 53) { last = p.sport; } else { } }",
+            "#define SIZE 8\n#define LEAST 4294967295\nstruct P { int sport ; int n ; } ;\nint total ;\nint last = LEAST ;\nint limit = { 80 } ;\nint seen [ SIZE ] ;\nint marks [ 4 ] = { 4294967295 } ;\nvoid f ( struct P p ) { total = total + 1 ; p . n = ( p . sport >> 2 ) % 16 ; seen [ p . n ] = seen [ p . n ] + 1 ; p . n = p . sport > limit ? total : - last ; p . n = hash2 ( p . sport , p . n ) ; if ( seen [ p . n ] > 3 && ! marks [ 0 ] ) { marks [ 0 ] = 1 ; } else if ( p . sport == 53 ) { last = p . sport ; } else { } }\n",
+        ),
+        (
             "struct P{int a;};int c[8];void f(struct P p){if(p.a){c[p.a]=1;}else if(!p.a){}else{if(c[p.a]>2){p.a=0;}}p.a=hash2(p.a,1);}",
             "struct P { int a ; } ;\nint c [ 8 ] ;\nvoid f ( struct P p ) { if ( p . a ) { c [ p . a ] = 1 ; } else if ( ! p . a ) { } else { if ( c [ p . a ] > 2 ) { p . a = 0 ; } } p . a = hash2 ( p . a , 1 ) ; }\n",
         ),
@@ -511,15 +515,34 @@ fn weighs_operators_at_each_depth(rt: HostRuntime) -> Result<(), Fail> {
 #[test]
 fn counts_anew_after_a_statement(rt: HostRuntime) -> Result<(), Fail> {
     let alloc = rt.alloc();
-    let sum = nested(alloc, 63, "p.a=", "", "")?;
-    assert!(rt; read_program(alloc, executing(alloc, &sum)?.as_bytes()).is_err());
     let statement = nested(alloc, 63, "", "p.a=a", "+a")?;
     let mut body = String::new(alloc);
     for _turn in 0..3 {
         body.push_str(&statement)?;
         body.push(';')?;
     }
-    assert!(rt; read_program(alloc, executing(alloc, &body)?.as_bytes()).is_ok());
+    let read = read_program(alloc, executing(alloc, &body)?.as_bytes());
+    assert!(rt; read.is_ok());
+    Ok(())
+}
+
+#[test]
+fn reads_the_deepest_texts(rt: HostRuntime) -> Result<(), Fail> {
+    let alloc = rt.alloc();
+    // Brackets of three kinds and operators within one another, 63 together.
+    let inner = nested(alloc, 3, "(", "a", ")")?;
+    let value = nested(alloc, 15, "(c[f(-", &inner, ")])")?;
+    let read = read_program(alloc, assigning(alloc, &value)?.as_bytes());
+    assert!(rt; read.is_ok());
+    // The innermost of 31 blocks, with 32 brackets.
+    let value = nested(alloc, 32, "(", "a", ")")?;
+    let mut statement = String::new(alloc);
+    statement.push_str("p.a=")?;
+    statement.push_str(&value)?;
+    statement.push(';')?;
+    let body = nested(alloc, 31, "if(a){", &statement, "}")?;
+    let read = read_program(alloc, executing(alloc, &body)?.as_bytes());
+    assert!(rt; read.is_ok());
     Ok(())
 }
 
