@@ -6,6 +6,8 @@ mod causes;
 #[cfg(test)]
 mod fixture;
 #[cfg(test)]
+mod language;
+#[cfg(test)]
 mod readers;
 #[cfg(test)]
 mod runs;
