@@ -5,9 +5,9 @@ pub mod Tokens
 pub mod Cutting
 pub mod Pieces
 pub mod Parsers
-pub mod ReadingExpressions
-pub mod ReadingPrograms
 pub mod Weighing
 pub mod Printing
+pub mod ReadingExpressions
+pub mod ReadingPrograms
 pub mod Stuck
 pub mod ProgramText
