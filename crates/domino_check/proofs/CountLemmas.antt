@@ -31,6 +31,14 @@ lengths_more f old out new items i x within here before after =
     ∙ append_assoc old (lengths_of (flat_map f (take i items))) (lengths_of (f x))
     ∙ ap (λ (l : List ℕ). old ++ l) (sym (map-append (λ (a : Array). a.length) (flat_map f (take i items)) (f x)) ∙ ap lengths_of seam)
 
+-- what the items so far and one more item give
+pub flat_more : {X : Type 0} (f : Item → List X) (old out new : List X) (items : List Item) (i : ℕ) (x : Item) → i < length items → x ≡ get_or items i x
+    → out ≡ old ++ flat_map f (take i items) → new ≡ out ++ f x → new ≡ old ++ flat_map f (take (i + 1) items)
+flat_more f old out new items i x within here before after =
+    after ∙ ap (λ l. l ++ f x) before
+    ∙ flat_map_more f old (take i items) x
+    ∙ ap (λ (xs : List Item). old ++ flat_map f xs) (ap (λ (y : Item). take i items ++ y ∷ []) here ∙ sym (take_more items i x within))
+
 -- ---- counts
 
 -- the definitions of a program, counted in its two lists of items

@@ -57,6 +57,22 @@ module _ {A : Type 0} where
         | inr h ↦ inr h
       ]
 
+  -- two places of one list: one stands before the other, or they are the same
+  compare_places : (xs ys cs bs : List A) (x y : A) → xs ++ x ∷ cs ≡ ys ++ y ∷ bs
+      → ((rest : List A) × (xs ≡ ys ++ y ∷ rest)) ⊎ (((rest : List A) × (ys ≡ xs ++ x ∷ rest)) ⊎ ((xs ≡ ys) × (x ≡ y)))
+  compare_places [] [] cs bs x y e = inr (inr (refl, same_head x y cs bs e))
+  compare_places [] (z ∷ ys) cs bs x y e = inr (inl (ys, ap (λ (t : A). t ∷ ys) (sym (same_head x z cs (ys ++ y ∷ bs) e))))
+  compare_places (z ∷ xs) [] cs bs x y e = inl (xs, ap (λ (t : A). t ∷ xs) (same_head z y (xs ++ x ∷ cs) bs e))
+  compare_places (z ∷ xs) (w ∷ ys) cs bs x y e =
+      let head : z ≡ w = same_head z w (xs ++ x ∷ cs) (ys ++ y ∷ bs) e in
+      elim (compare_places xs ys cs bs x y (same_tail z w (xs ++ x ∷ cs) (ys ++ y ∷ bs) e)) [
+        | inl h ↦ inl (h.0, (λ i. head i ∷ h.1 i))
+        | inr h ↦ elim h [
+          | inl k ↦ inr (inl (k.0, (λ i. sym head i ∷ k.1 i)))
+          | inr k ↦ inr (inr ((λ i. head i ∷ k.0 i), k.1))
+        ]
+      ]
+
 -- ---- walks
 
 module _ {A : Type 0} (Amiss : List A → A → CheckFault → Type 0) where
@@ -97,6 +113,22 @@ module _ {A : Type 0} (Amiss : List A → A → CheckFault → Type 0) where
     amiss = now;
     fine = fine;
   }
+
+-- something is amiss at a place, or at none
+pub not_both : {A : Type 0} (Amiss : List A → A → CheckFault → Type 0) (places : List A) (f : CheckFault) → FirstFault Amiss places f → NoFault Amiss places → ⊥
+not_both Amiss places f h none = none h.front h.at h.back f h.is h.amiss
+
+-- the first place is one, and so is its fault where a place has one
+pub one_first : {A : Type 0} (Amiss : List A → A → CheckFault → Type 0) (one : (before : List A) (x : A) (f g : CheckFault) → Amiss before x f → Amiss before x g → f ≡ g)
+    (places : List A) (f g : CheckFault) → FirstFault Amiss places f → FirstFault Amiss places g → f ≡ g
+one_first {A} Amiss one places f g h k =
+    elim (compare_places h.front k.front h.back k.back h.at k.at (sym h.is ∙ k.is)) [
+      | inl sooner ↦ absurd (h.fine k.front k.at sooner.0 g sooner.1 k.amiss)
+      | inr rest ↦ elim rest [
+        | inl later ↦ absurd (k.fine h.front h.at later.0 f later.1 h.amiss)
+        | inr same ↦ one k.front k.at f g (subst (λ (x : A). Amiss k.front x f) same.1 (subst (λ (b : List A). Amiss b h.at f) same.0 h.amiss)) k.amiss
+      ]
+    ]
 
 -- something is amiss in the first of two lists
 pub first_left : {A : Type 0} (Amiss : List A → A → CheckFault → Type 0) (xs ys : List A) (f : CheckFault) → FirstFault Amiss xs f → FirstFault Amiss (xs ++ ys) f

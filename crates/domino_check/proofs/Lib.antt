@@ -9,3 +9,8 @@ pub mod TableLemmas
 pub mod Agreement
 pub mod SiteLemmas
 pub mod CheckedLemmas
+pub mod DeclaredLemmas
+pub mod BelowLemmas
+pub mod PartsLemmas
+pub mod RefusedLemmas
+pub mod AssemblyLemmas

@@ -10,3 +10,4 @@ pub mod Tables
 pub mod Numbers
 pub mod Sites
 pub mod Accepted
+pub mod Refused

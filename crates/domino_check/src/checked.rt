@@ -6,6 +6,7 @@ ghost use Rattle.domino_check.specs.Indexes.{index_of};
 ghost use Rattle.domino_check.specs.Accepted.{Keeps};
 
 use crate::numbered::{ArrayInfo, CheckedExpr, CheckedStmt};
+use crate::parts::Parts;
 use domino_tree::Program;
 use mp5_words::FieldNames;
 use sqlite_items::Items;
@@ -38,6 +39,28 @@ impl Model for Checked {
 }
 
 impl Checked {
+    ghost use Rattle.domino_check.specs.Accepted.{IsChecked};
+
+    /// The program with its parts.
+    pub(crate) fn new(program: Program, parts: Parts) -> Checked
+        requires { IsChecked program parts.fields parts.arrays parts.body parts.indexes }
+        ensures { result ≡ program }
+    {
+        let Parts {
+            fields,
+            arrays,
+            body,
+            indexes,
+        } = parts;
+        Checked {
+            program,
+            fields,
+            arrays,
+            body,
+            indexes,
+        }
+    }
+
     /// The program as it was read.
     pub fn program(&self) -> &Program
         ensures program { result.now ≡ self.now }

@@ -115,8 +115,8 @@ fn define_count(items: &[Item]) -> usize
     count
 }
 
-// How many cells an array of this declared length has; a register has one.
-fn length_of(numbers: &Numbers<'_>, length: &Option<Size>) -> u32
+/// How many cells an array of this declared length has; a register has one.
+pub(crate) fn length_of(numbers: &Numbers<'_>, length: &Option<Size>) -> u32
     ensures { (defines : List Defined) → HasNumbers numbers.now defines → result ≡ length_value defines length.now }
 {
     match length {

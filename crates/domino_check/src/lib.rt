@@ -3,20 +3,24 @@
 #![tactic(auto)]
 
 mod checked;
+mod checking;
 mod checks;
 mod declarations;
 mod fault;
 mod indexes;
+mod infos;
 mod lengths;
 mod names;
 mod numbered;
 mod numbering;
 mod numbers;
+mod parts;
 mod role;
 mod scope;
 mod sites;
 mod uses;
 
 pub use checked::Checked;
+pub use checking::check;
 pub use fault::{CheckFault, What};
 pub use numbered::{ArrayInfo, CheckedArm, CheckedExpr, CheckedStmt};

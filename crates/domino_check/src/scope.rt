@@ -15,6 +15,7 @@ pub(crate) struct Define {
 }
 
 /// What the names of a program stand for.
+#[derive(Drop)]
 pub(crate) struct Scope<'a> {
     defines: &'a [Define],
     fields: &'a [Name],
@@ -35,6 +36,25 @@ impl<'a> Model for Scope<'a> {
 }
 
 impl<'a> Scope<'a> {
+    ghost use Rattle.domino_check.specs.Infos.{names_from};
+
+    /// The names that these lists declare.
+    pub(crate) fn new(
+        defines: &'a [Define],
+        fields: &'a [Name],
+        arrays: &'a [ArrayInfo],
+    ) -> Scope<'a>
+        requires fields { length fields.now ≤ 32 }
+        requires arrays { length arrays.now ≤ 16 }
+        ensures { result ≡ names_from defines.now fields.now arrays.now }
+    {
+        Scope {
+            defines,
+            fields,
+            arrays,
+        }
+    }
+
     /// The number that a name is defined as, where it is.
     pub(crate) fn number_of(&self, name: &Name) -> Option<i32>
         ensures { result ≡ number_of name.now self.now.defines }

@@ -1,0 +1,114 @@
+-- What a program that passes the checks of names and sizes keeps.
+use Rattle.std.proofs.Common.{◌≡◌, ℕ, suc, ◌≤◌, ◌<◌, ℤ, pos, negsuc, Bool, true, false, ◌||◌, nat_lt, int_lt, if◌then◌else◌, List, [], ◌∷◌, ◌++◌, length, map, flat_map, Option, Some, None, refl, sym, ap, subst, ◌∙◌, true≢false, arith}
+use Rattle.std.proofs.lemmas.Bool.{ltb-false}
+use Rattle.domino_tree.specs.declared.program.Size.{Size}
+use Rattle.domino_tree.specs.declared.program.Item.{Item}
+use Rattle.domino_tree.specs.declared.program.Item.TheVariants as item
+use Rattle.domino_tree.specs.declared.program.Program.{Program}
+use Rattle.domino_tree.specs.Value.{Defined, Names, Array, names_of, natural, size_value, length_value, start_value, item_define}
+use Rattle.domino_check.specs.declared.fault.CheckFault.{CheckFault}
+use Rattle.domino_check.specs.declared.fault.CheckFault.TheVariants as fault
+use Rattle.domino_check.specs.declared.fault.What.{What}
+use Rattle.domino_check.specs.declared.fault.What.TheVariants as what
+use Rattle.domino_check.specs.declared.numbered.ArrayInfo.{ArrayInfo}
+use Rattle.domino_check.specs.declared.scope.Define.{Define}
+use Rattle.domino_check.specs.First.{NoFault}
+use Rattle.domino_check.specs.Checks.{limit, count, counted, bad_of, bad_length, item_name, BadLengthAt, NoBadLength, TooManyAt, NoTooMany}
+use Rattle.domino_check.specs.Infos.{item_info, infos_of, array_of, defined_of, names_from}
+use Rattle.domino_check.specs.Accepted.{AreSized, Keeps}
+use Rattle.std.proofs.lemmas.List.FromFn.{length-map-range_with_len}
+use Rattle.domino_check.specs.declared.numbered.CheckedExpr.{CheckedExpr}
+use Rattle.domino_check.specs.declared.numbering.Access.{Access}
+use Rattle.domino_check.specs.declared.sites.Site.{Site}
+use Rattle.domino_check.specs.Checks.{NoUnknown, NoWrongKind}
+use Rattle.domino_check.specs.Numbering.{accesses, numbered_body}
+use Rattle.domino_check.specs.Indexes.{AreBelow, AllKeep, index_of, indexes_of}
+use Rattle.domino_check.specs.Sites.{program_indexes, sites_of}
+use Rattle.domino_check.specs.Refused.{PassesSizes}
+use Rattle.domino_check.proofs.BelowLemmas.{accesses_below}
+use Rattle.domino_check.proofs.CheckedLemmas.{infos_are, length-infos}
+
+-- the names of a program, from its lists
+pub names_are : (p : Program) (defines : List Define) (fields : List (List ℕ)) (infos : List ArrayInfo)
+    → map defined_of defines ≡ (names_of p).defines → fields ≡ p.packet.fields → infos ≡ infos_of p → names_from defines fields infos ≡ names_of p
+names_are p defines fields infos d f i = λ j. record { defines = d j; fields = f j; arrays = (ap (map array_of) i ∙ infos_are p) j }
+
+-- ---- counts
+
+not_more : (n m : ℕ) → (nat_lt n m ≡ true → ⊥) → m ≤ n
+not_more n m h = by (nat_lt n m) refl
+  where
+    by : (b : Bool) → nat_lt n m ≡ b → m ≤ n
+    by true e = absurd (h e)
+    by false e = ltb-false n m e
+
+pub few_fields_of : (p : Program) → NoTooMany p → length p.packet.fields ≤ 32
+few_fields_of p few = not_more 32 (length p.packet.fields) (λ h. few (what.Defines ∷ []) what.Fields (what.Arrays ∷ what.Cells ∷ []) _ refl (h, refl))
+
+pub few_arrays_of : (p : Program) → NoTooMany p → length (infos_of p) ≤ 16
+few_arrays_of p few =
+    let h : length (names_of p).arrays ≤ 16 = not_more 16 (length (names_of p).arrays) (λ h. few (what.Defines ∷ what.Fields ∷ []) what.Arrays (what.Cells ∷ []) _ refl (h, refl)) in
+    omega (arith, length-infos p, h)
+
+-- ---- lengths
+
+good_length : (z : ℤ) → ((m : ℤ) → bad_of z ≡ Some m → ⊥) → (1 ≤ natural z) × (natural z ≤ 65536)
+good_length (negsuc k) h = absurd (h (negsuc k) refl)
+good_length (pos k) h = by (nat_lt k 1) (nat_lt 65536 k) refl refl
+  where
+    by : (a b : Bool) → nat_lt k 1 ≡ a → nat_lt 65536 k ≡ b → (1 ≤ k) × (k ≤ 65536)
+    by true b one two = absurd (h (pos k) (ap (λ t. if t || nat_lt 65536 k then Some (pos k) else None) one))
+    by false true one two = absurd (h (pos k) ((λ i. if one i || two i then Some (pos k) else None)))
+    by false false one two = (ltb-false k 1 one, ltb-false 65536 k two)
+
+sized_in : (defines : List Defined) (items : List Item) → NoFault (BadLengthAt defines) items → AreSized (flat_map (item_info defines) items)
+sized_in defines [] fine = tt
+sized_in defines (item.Define name value ∷ items) fine =
+    sized_in defines items (λ before x after g is a. fine (item.Define name value ∷ before) x after g (ap (λ (l : List Item). item.Define name value ∷ l) is) a)
+sized_in defines (item.Array name None start ∷ items) fine = (
+  (omega arith, omega arith),
+  sized_in defines items (λ before x after g is a. fine (item.Array name None start ∷ before) x after g (ap (λ (l : List Item). item.Array name None start ∷ l) is) a),
+)
+sized_in defines (item.Array name (Some s) start ∷ items) fine = (
+  good_length (size_value defines s) (λ m is. fine [] (item.Array name (Some s) start) items (fault.BadLength name m) refl (m, is, refl)),
+  sized_in defines items (λ before x after g is a. fine (item.Array name (Some s) start ∷ before) x after g (ap (λ (l : List Item). item.Array name (Some s) start ∷ l) is) a),
+)
+
+pub sized_of : (p : Program) → NoBadLength p → AreSized (infos_of p)
+sized_of p fine = sized_in (names_of p).defines (p.before ++ p.after) fine
+
+-- ---- what was computed from the program
+
+module _ (p : Program) (infos : List ArrayInfo) (is : infos ≡ infos_of p) where
+  arrays_is : map array_of infos ≡ (names_of p).arrays
+  arrays_is = ap (map array_of) is ∙ infos_are p
+
+  count_is : length infos ≡ length (names_of p).arrays
+  count_is = ap length is ∙ length-infos p
+
+  pub below_of : (xs : List Access) → xs ≡ accesses p → NoUnknown p → NoWrongKind p → AreBelow (length infos) xs
+  below_of xs x known kept = subst (AreBelow (length infos)) (sym x) (subst (λ (n : ℕ). AreBelow n (accesses p)) (sym count_is) (accesses_below p known kept))
+
+  pub accesses_of : (P : List Array → List Access → Type 0) (xs : List Access) → xs ≡ accesses p → P (map array_of infos) xs → P (names_of p).arrays (accesses p)
+  accesses_of P xs x h = subst (P (names_of p).arrays) x (subst (λ (arrays : List Array). P arrays xs) arrays_is h)
+
+  pub table_of : (xs : List Access) (table : List (Option CheckedExpr)) → xs ≡ accesses p → table ≡ indexes_of xs (length infos) → table ≡ program_indexes p
+  table_of xs table x t = t ∙ (λ i. indexes_of (x i) (count_is i))
+
+  pub same_length : (table : List (Option CheckedExpr)) → table ≡ program_indexes p → length table ≡ length infos
+  same_length table t = ap length t ∙ length-map-range_with_len (index_of (accesses p)) 0 (length (names_of p).arrays) ∙ sym count_is
+
+  pub sites_at : (P : List Array → List (Option CheckedExpr) → List Site → Type 0) (table : List (Option CheckedExpr)) (sites : List Site)
+      → table ≡ program_indexes p → sites ≡ sites_of (numbered_body p) → P (map array_of infos) table sites → P (names_of p).arrays (program_indexes p) (sites_of (numbered_body p))
+  sites_at P table sites t s h =
+      subst (P (names_of p).arrays (program_indexes p)) s
+      (subst (λ (x : List (Option CheckedExpr)). P (names_of p).arrays x sites) t
+      (subst (λ (arrays : List Array). P arrays table sites) arrays_is h))
+
+-- the program keeps what its checks say
+pub keeps_of : (p : Program) (xs : List Access) → xs ≡ accesses p → PassesSizes p → AllKeep (index_of xs) xs → Keeps p
+keeps_of p xs x sizes kept = record {
+  few = few_arrays_of p sizes.few;
+  sized = sized_of p sizes.lengths;
+  indexed = subst (λ (l : List Access). AllKeep (index_of l) l) x kept;
+}
