@@ -34,11 +34,6 @@ fn words(rt: HostRuntime) -> Result<(), Fail> {
             2,
             "mp5 one p gen:1:1|mp5 one p gen:|mp5 one p gen:x|mp5 one -p gen:x|mp5 one p -- gen:1:1",
         ),
-        // A program that isn't listed is empty, so no read of a capture follows.
-        (
-            3,
-            "mp5 one q c|mp5 one gen:x c|mp5 one q p|mp5 one q q|mp5 one  c|mp5 one p- c|mp5 one _p c|mp5 one P c|mp5 one - c",
-        ),
         (
             5,
             "mp5 one p c|-x one p c| one p c|mp5 one c p|mp5 one p p|mp5 one p q|mp5 one p gen|mp5 one p Gen:1:1|mp5 one p |mp5 one p -|mp5 -- one p c",
@@ -51,30 +46,36 @@ fn words(rt: HostRuntime) -> Result<(), Fail> {
             assert_ended(&rt, &ended, code, "", line);
         }
     }
-    for (code, out, lines) in [
-        (0, COUNTED, "mp5 one p c|-x one p c|gen:1 one p c| one p c"),
-        (3, "", "mp5 one c c|mp5 one c p|mp5 one q c"),
-    ] {
-        for line in lines.split('|') {
-            let mut store = counting(alloc, &[])?;
-            let (taken, err) = (sink(alloc, 99, &[])?, sink(alloc, 99, &[])?);
-            let ended = call(alloc, line, &mut store, taken, err)?;
-            assert_ended(&rt, &ended, code, out, line);
-        }
+    for line in "mp5 one p c|-x one p c|gen:1 one p c| one p c".split('|') {
+        let mut store = counting(alloc, &[])?;
+        let (taken, err) = (sink(alloc, 99, &[])?, sink(alloc, 99, &[])?);
+        let ended = call(alloc, line, &mut store, taken, err)?;
+        assert_ended(&rt, &ended, 0, COUNTED, line);
     }
-    // The program as a capture begins with `stru`; a capture that isn't listed is empty.
-    for (refusal, lines) in [
-        ("4 73747275", "mp5 one p p"),
+    // A program that isn't listed is empty, so no read of a capture follows. The first byte of the capture
+    // begins no token. The program as a capture begins with `stru`; a capture that isn't listed is empty.
+    let rows: [(&[u64], u8, &str, &str); 4] = [
         (
+            &[1],
+            3,
+            "3 0",
+            "mp5 one q c|mp5 one gen:x c|mp5 one q p|mp5 one q q|mp5 one  c|mp5 one p- c|mp5 one _p c|mp5 one P c|mp5 one - c",
+        ),
+        (&[], 3, "2 0", "mp5 one c c|mp5 one c p"),
+        (&[], 4, "4 73747275", "mp5 one p p"),
+        (
+            &[],
+            4,
             "2 0",
             "mp5 one p q|mp5 one p gen|mp5 one p Gen:1:1|mp5 one p xgen:1|mp5 one p |mp5 one p c-",
         ),
-    ] {
+    ];
+    for (fails, code, refusal, lines) in rows {
         for line in lines.split('|') {
-            let mut store = counting(alloc, &[])?;
+            let mut store = counting(alloc, fails)?;
             let (taken, err) = (sink(alloc, 99, &[])?, sink(alloc, 99, &[])?);
             let ended = call(alloc, line, &mut store, taken, err)?;
-            assert_refused(&rt, alloc, &ended, refusal, line)?;
+            assert_refused(&rt, alloc, &ended, code, refusal, line)?;
         }
     }
     Ok(())
@@ -187,7 +188,7 @@ fn other_stores_and_sinks(rt: HostRuntime) -> Result<(), Fail> {
     assert_ended(&rt, &ended, 0, COUNTED, "one byte at a time");
     let (out, err) = (sink(alloc, 1, &[])?, sink(alloc, 1, &[])?);
     let ended = call(alloc, "mp5 one p p", &mut store, out, err)?;
-    assert_refused(&rt, alloc, &ended, "4 73747275", "one byte at a time")?;
+    assert_refused(&rt, alloc, &ended, 4, "4 73747275", "one byte at a time")?;
     for (line, code) in [
         ("mp5 one gen:p c", 0),
         ("mp5 one p c", 3),
@@ -211,7 +212,7 @@ fn codes(rt: HostRuntime) {
         (Status::Done, 0),
         (Status::Help, 1),
         (Status::Words, 2),
-        (Status::Program(ProgramFault::NotYet), 3),
+        (Status::Program(ProgramFault::NoMemory), 3),
         (Status::ReadFault, 5),
         (Status::WriteFault, 6),
         (Status::NoMemory, 7),

@@ -155,12 +155,11 @@ pub(crate) fn text_of(sink: &MemorySink) -> &str {
     str::from_utf8(sink.bytes()).unwrap_or("not UTF-8")
 }
 
-/// The line for the status of this code, which isn't that of a refused capture.
+/// The line for the status of this code, which isn't that of a refusal that keeps values.
 fn line_of(code: u8) -> &'static str {
     match code {
         0 => "",
         2 => "mp5: words\n",
-        3 => "mp5: program 40\n",
         5 => "mp5: read fault\n",
         6 => "mp5: write fault\n",
         _ => "mp5: no memory\n",
@@ -174,16 +173,19 @@ pub(crate) fn assert_ended(rt: &impl Abort, ended: &Ended, code: u8, out: &str, 
     assert_eq!(rt; text_of(&ended.err), line_of(code), "at {at}");
 }
 
-/// The call has ended with a refused capture: this number, and the values that are kept.
+/// The call has ended with a refused program or a refused capture, by its code: this number, and the values
+/// that are kept.
 pub(crate) fn assert_refused(
     rt: &impl Abort,
     alloc: Global,
     ended: &Ended,
+    code: u8,
     refusal: &str,
     at: &str,
 ) -> Result<(), AllocError> {
-    let line = format!(in alloc; "mp5: capture {refusal}\n")?;
-    assert_eq!(rt; ended.status.code(), 4, "at {at}");
+    let refused = if code == 3 { "program" } else { "capture" };
+    let line = format!(in alloc; "mp5: {refused} {refusal}\n")?;
+    assert_eq!(rt; ended.status.code(), code, "at {at}");
     assert_eq!(rt; text_of(&ended.out), "", "at {at}");
     assert_eq!(rt; text_of(&ended.err), line.as_str(), "at {at}");
     Ok(())

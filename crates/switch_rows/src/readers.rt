@@ -11,16 +11,21 @@ const DONE: u8 = 0;
 
 const PROGRAM: u8 = 3;
 
-// A text as a program on a capture of no packets ends with this code.
+const CAPTURE: u8 = 4;
+
+// A text as a program on a capture of no packets is run, or refused with this number and these values.
 fn assert_text(
     rt: &impl Abort,
     alloc: Global,
     text: &[u8],
-    code: u8,
+    want: Result<(), &str>,
     at: &str,
 ) -> Result<(), AllocError> {
-    let out = if code == DONE { "done 0\n" } else { "" };
-    assert_ended(rt, &run(alloc, text, &FILE_HEADER)?, code, out, at);
+    let ended = run(alloc, text, &FILE_HEADER)?;
+    if let Err(refusal) = want {
+        return assert_refused(rt, alloc, &ended, PROGRAM, refusal, at);
+    }
+    assert_ended(rt, &ended, DONE, "done 0\n", at);
     Ok(())
 }
 
@@ -29,12 +34,12 @@ fn assert_texts(
     rt: &impl Abort,
     alloc: Global,
     (before, after): (&str, &str),
-    code: u8,
+    want: Result<(), &str>,
     pieces: &str,
 ) -> Result<(), AllocError> {
     for piece in pieces.split('|') {
         let text = format!(in alloc; "{before}{piece}{after}")?;
-        assert_text(rt, alloc, text.as_bytes(), code, &text)?;
+        assert_text(rt, alloc, text.as_bytes(), want, &text)?;
     }
     Ok(())
 }
@@ -51,86 +56,228 @@ const STATEMENT: (&str, &str) = (
 
 const TRANSACTION: (&str, &str) = ("int c; struct P { int n; }; ", "");
 
+// 2 keeps the byte where no token begins, and 3 how many tokens there are before the one that nothing goes on
+// with. There are 25 tokens before a statement, 11 before a transaction, and 6 before a field.
 #[test]
 fn texts(rt: HostRuntime) -> Result<(), Fail> {
     let alloc = rt.alloc();
-    for (around, code, pieces) in [
+    let rows: [((&str, &str), Result<(), &str>, &str); 67] = [
         (
             ITEM,
-            DONE,
-            "|int c;|int _; int __0; int A1; int a1;|int Int; int ifs; int voids;
-            |int c; int C; int cc;|int P;|int n;|int hash; int hash1; int hash2c; int hash3a; int Hash2;
-            |int saddr; int daddr; int proto; int ttl; int tos; int len; int arrival;",
+            Ok(()),
+            "|int c;|int _; int __0; int A1; int a1;|int Int; int ifs; int voids;|int c; int C; int cc;
+            |int P;|int n;|int hash; int hash1; int hash2c; int hash3a; int Hash2;
+            |int saddr; int daddr; int proto; int ttl; int tos; int len; int arrival;|#include <a>\n
+            |#include\n|// a\n|/* a */|int/**/c;",
         ),
         (
             ITEM,
-            PROGRAM,
-            "int 1a;|int 1;|int a-b;|int a.b;|int a$;|int ;|int;|;|int c|c;|int int c;|int c d;|int c, d;
-            |int if;|int int;|int void;|int else;|int struct;|void c;|Int c;|intc;
-            |int c[4];|int c[1];|int c = 0;|int c = {0};|#define A 1\n|#include <a>\n|// a\n|/* a */
-            |int c; int c;|int c; int d; int c;|int f;|int p;|int hash2;|int hash2a;|int hash2b;|int hash3;",
+            Ok(()),
+            "int c[4];|int c[1];|int c[65536];|int c = 0;|int c = {0};|#define A 1\n|int c = A; #define A -1\n
+            |int c[A]; #define A 0x10\n",
+        ),
+        (ITEM, Err("5 c"), "int c; int c;|int c; int d; int c;|int c; #define c 1\n"),
+        (ITEM, Err("5 f"), "int f;"),
+        (ITEM, Err("5 p"), "int p;"),
+        (ITEM, Err("5 hash2"), "int hash2;"),
+        (ITEM, Err("5 hash2a"), "int hash2a;|#define hash2a 1\n"),
+        (ITEM, Err("5 hash2b"), "int hash2b[4];"),
+        (ITEM, Err("5 hash3"), "int hash3;"),
+        (ITEM, Err("6 A"), "int c = A;|int c[A];"),
+        (ITEM, Err("7 d"), "int d; int c = d;|int c[d]; int d;"),
+        (ITEM, Err("9 c 0"), "int c[0];|int c[A]; #define A 0\n"),
+        (ITEM, Err("9 c -1"), "int c[4294967295];|int c[A]; #define A -1\n"),
+        (ITEM, Err("9 c 65537"), "int c[65537];"),
+        (
+            ITEM,
+            Err("10 cells 262145"),
+            "int a[65536]; int b[65536]; int c[65536]; int d[65536]; int e;",
+        ),
+        (ITEM, Err("2 0"), "/* a|#defined A 1\n"),
+        (ITEM, Err("2 4"), "int 1a;"),
+        (ITEM, Err("2 5"), "int a$;"),
+        (ITEM, Err("3 0"), ";|c;|void c;|Int c;|intc;"),
+        (
+            ITEM,
+            Err("3 1"),
+            "int 1;|int ;|int;|int int c;|int if;|int int;|int void;|int else;|int struct;",
+        ),
+        (
+            ITEM,
+            Err("3 2"),
+            "int a-b;|int a.b;|int c|int c d;|int c, d;",
         ),
         (
             FIELD,
-            DONE,
+            Ok(()),
             "|int n;|int n; int N;|int c; int f; int p; int P; int hash2;|int sport; int dport;
-            |int leng; int le; int Len; int arrivals;|int saddr;|int daddr;|int proto;|int ttl;|int tos;|int len;
-            |int n; int arrival; int m;",
+            |int leng; int le; int Len; int arrivals;|int saddr;|int daddr;|int proto;|int ttl;|int tos;
+            |int len;|int n; int arrival; int m;",
         ),
-        (
-            FIELD,
-            PROGRAM,
-            "int n; int n;|int n; int m; int n;|int n|int n;;|n;|int n = 0;|int n, m;|int n[2];|int if;|intn;
-            |int saddr; int saddr;|int arrival; int n; int arrival;",
-        ),
+        (FIELD, Err("5 n"), "int n; int n;|int n; int m; int n;"),
+        (FIELD, Err("5 saddr"), "int saddr; int saddr;"),
+        (FIELD, Err("5 arrival"), "int arrival; int n; int arrival;"),
+        (FIELD, Err("3 6"), "n;|intn;"),
+        (FIELD, Err("3 7"), "int if;"),
+        (FIELD, Err("3 8"), "int n|int n = 0;|int n, m;|int n[2];"),
+        (FIELD, Err("3 9"), "int n;;"),
         (
             STATEMENT,
-            DONE,
+            Ok(()),
             "|c = d; p.n = p.m;|c=1-1+1-p.n-c;|p . n = 1 ; p\t.\n\n m = p.\rn;
-            |c = 0; c = 10; c = 2147483648; c = 4294967295;",
+            |c = 0; c = 10; c = 2147483648; c = 4294967295;|c = 0x1F;|c = 0x0; c = 0xFFFFFFFF;
+            |c = 1; // one\n|c = /* one */ 1;|c = 1;\n#include \"a\"\n",
         ),
-        // Numbers, with 2 to the power of 32, that of 64 and 1 more, and that of 128 and 1 more.
         (
             STATEMENT,
-            PROGRAM,
+            Ok(()),
+            "c = -1;|c = 1 - -1;|c = c == 1;|c = 2 * 3;|c = 6 / 3;|c = 7 % 3;|c = (1);|c = !d;|c = ~d;
+            |c = 1 << 2;|c = 1 >> 2;|c = 1 < 2;|c = 1 & 2;|c = 1 ^ 2;|c = d ? 1 : 2;|c = hash2(p.n, 1);
+            |c = hash3(1, 2, 3);|if (c) { d = 1; }|if (c) { } else { }|if (c) { } else if (d) { } else { }",
+        ),
+        (STATEMENT, Err("6 e"), "e = 1;|c = e;|c = 1 + 2 - e;|p.e = 1;|c = p.e;|c = e[0];|e[0] = 1;|c = e(1);"),
+        (STATEMENT, Err("6 C"), "C = 1;"),
+        (STATEMENT, Err("6 cc"), "c = cc;"),
+        (STATEMENT, Err("6 N"), "c = p.N;"),
+        (STATEMENT, Err("6 q"), "q.n = 1;|c = q.n;"),
+        (STATEMENT, Err("6 n"), "n = 1;|c = n;"),
+        (STATEMENT, Err("6 c"), "p.c = 1;|c = p.c;"),
+        (STATEMENT, Err("6 P"), "P.n = 1;|c = P.n;|P = 1;|c = P;"),
+        (STATEMENT, Err("7 c"), "c[0] = 1;|c.n = 1;|c = c.n;|d = c(1, 2);"),
+        (STATEMENT, Err("7 d"), "c = d[0];"),
+        (STATEMENT, Err("7 f"), "f.n = 1;|c = f.n;|f = 1;|c = f;"),
+        (STATEMENT, Err("7 p"), "p = 1;|c = p;"),
+        (STATEMENT, Err("7 hash2"), "hash2 = 1;"),
+        (STATEMENT, Err("7 hash3"), "c = hash3;"),
+        (STATEMENT, Err("8 hash2"), "c = hash2(1);|c = hash2();|c = hash2(1, 2, 3);"),
+        (STATEMENT, Err("8 hash3"), "c = hash3(1, 2);"),
+        (
+            STATEMENT,
+            Err("2 66"),
             "c = 4294967296;|c = 18446744073709551617;|c = 340282366920938463463374607431768211457;
-            |c = 012;|c = 00;|c = 0x1F;|c = 0x0;|c = 1_0;|c = 1u;|c = 1.5;|c = -1;|c = +1;|c = 1 - -1;",
+            |c = 012;|c = 00;|c = 1_0;|c = 1u;|c = 0x;|c = 0x123456789;",
         ),
-        // Forms.
         (
             STATEMENT,
-            PROGRAM,
-            "c = 1 + ;|c = ;|c = 1|c = 1;;|;|c;|1 = c;|c = d = 1;|c == 1;|c = c == 1;|c += 1;|c++;
-            |c = 2 * 3;|c = 6 / 3;|c = (1);|c = !d;|c = 1 << 2;|c = 1 < 2;|c = d ? 1 : 2;|c = hash2(p.n, 1);
-            |if (c) { d = 1; }|{ c = 1; }|int e; e = 1;|return;|c = 1; // one\n|c = /* one */ 1;
-            |c[0] = 1;|c = d[0];|p.n.m = 1;|p->n = 1;|p..n = 1;|p.1 = 1;|p. = 1;|.n = 1;|p.if = 1;|if = 1;",
+            Err("3 25"),
+            ";|1 = c;|{ c = 1; }|int e; e = 1;|.n = 1;",
         ),
-        // Names that aren't declared, or not as what they are used.
         (
             STATEMENT,
-            PROGRAM,
-            "e = 1;|c = e;|c = 1 + 2 - e;|C = 1;|c = cc;|p.e = 1;|c = p.e;|c = p.N;|q.n = 1;|c = q.n;
-            |n = 1;|c = n;|p.c = 1;|c = p.c;|c.n = 1;|c = c.n;|P.n = 1;|c = P.n;|f.n = 1;|c = f.n;
-            |p = 1;|c = p;|f = 1;|c = f;|P = 1;|c = P;|hash2 = 1;|c = hash3;",
+            Err("3 26"),
+            "c;|c == 1;|c += 1;|c++;|return;|p->n = 1;|if = 1;",
         ),
         (
-            TRANSACTION,
-            DONE,
-            "void g(struct P q) { q.n = c; }|int d; void g(struct P n) { n.n = d; }|void len(struct P ttl) { }
-            |void P(struct P n) { }|void n(struct P P) { P.n = 1; }",
+            STATEMENT,
+            Err("3 27"),
+            "c = +1;|c = ;|p..n = 1;|p.1 = 1;|p. = 1;|p.if = 1;",
         ),
         (
-            TRANSACTION,
-            PROGRAM,
-            "|int d;|void f() { }|void f(P p) { }|int f(struct P p) { }|void f(struct P p) { } ;
-            |void f(struct P p) { } }|void f(struct P p) { } int d;|struct Q { }; void f(struct P p) { }
-            |void f(struct P p) { } void g(struct P p) { }|void f(struct Q p) { }|void f(struct p p) { }
-            |void f(struct c p) { }|void p(struct P p) { }|void c(struct P p) { }|void f(struct P c) { }
-            |void hash2b(struct P p) { }|void f(struct P hash3) { }|void if(struct P p) { }|void f(struct P int) { }",
+            STATEMENT,
+            Err("3 28"),
+            "c = 1.5;|c = 1|c = d = 1;|p.n.m = 1;",
         ),
-    ] {
-        assert_texts(&rt, alloc, around, code, pieces)?;
+        (STATEMENT, Err("3 29"), "c = 1 + ;|c = 1;;|if (c) d = 1;"),
+        (
+            TRANSACTION,
+            Ok(()),
+            "void g(struct P q) { q.n = c; }|int d; void g(struct P n) { n.n = d; }
+            |void len(struct P ttl) { }|void P(struct P n) { }|void n(struct P P) { P.n = 1; }",
+        ),
+        (TRANSACTION, Err("6 Q"), "void f(struct Q p) { }"),
+        (TRANSACTION, Err("6 p"), "void f(struct p p) { }"),
+        (TRANSACTION, Err("6 c"), "void f(struct c p) { }"),
+        (TRANSACTION, Err("5 p"), "void p(struct P p) { }"),
+        (TRANSACTION, Err("5 c"), "void c(struct P p) { }|void f(struct P c) { }"),
+        (TRANSACTION, Err("5 hash2b"), "void hash2b(struct P p) { }"),
+        (TRANSACTION, Err("5 hash3"), "void f(struct P hash3) { }"),
+        (
+            TRANSACTION,
+            Err("3 11"),
+            "|struct Q { }; void f(struct P p) { }",
+        ),
+        (TRANSACTION, Err("3 12"), "void if(struct P p) { }"),
+        (TRANSACTION, Err("3 13"), "int f(struct P p) { }"),
+        (
+            TRANSACTION,
+            Err("3 14"),
+            "int d;|void f() { }|void f(P p) { }",
+        ),
+        (TRANSACTION, Err("3 16"), "void f(struct P int) { }"),
+        (
+            TRANSACTION,
+            Err("3 20"),
+            "void f(struct P p) { } ;|void f(struct P p) { } }|void f(struct P p) { } int d;
+            |void f(struct P p) { } void g(struct P p) { }",
+        ),
+    ];
+    for (around, want, pieces) in rows {
+        assert_texts(&rt, alloc, around, want, pieces)?;
     }
+    Ok(())
+}
+
+const BEGUN: &str = "struct P { int n; }; void f(struct P p) { ";
+
+// A value in so many brackets.
+fn in_brackets(alloc: Global, count: u8) -> Result<String, AllocError> {
+    let mut text = String::new(alloc);
+    for _ in 0..count {
+        text.push('(')?;
+    }
+    text.push('1')?;
+    for _ in 0..count {
+        text.push(')')?;
+    }
+    Ok(text)
+}
+
+// Whole texts, each with its answer. The bracket of the body and 63 more weigh 64.
+#[test]
+fn whole_texts(rt: HostRuntime) -> Result<(), Fail> {
+    let alloc = rt.alloc();
+    let rows: [(&str, &str); 9] = [
+        ("", "3 0"),
+        ("struct P @", "2 9"),
+        ("struct P { int n; }; /* the rest", "2 21"),
+        ("struct P { int n; }; void f(struct P p) { if (p.n", "3 21"),
+        (
+            "struct P { int n; }; void f(struct P p) { p.n = 012; }",
+            "2 48",
+        ),
+        (
+            "struct P { int n; }; void f(struct P p) { p.n = 1 2; }",
+            "3 21",
+        ),
+        (
+            "struct P { int n; }; void f(struct P p) { if (p.n) p.n = 0; }",
+            "3 22",
+        ),
+        (
+            "struct P { int sport; int n; }; int c[5]; void f(struct P p) { c[p.sport] = 1; p.n = c[p.n]; }",
+            "11 c",
+        ),
+        (
+            "struct P { int sport; int n; }; int c[5]; void f(struct P p) { c[p.sport] = 1; p.sport = 2; }",
+            "12 c",
+        ),
+    ];
+    for (text, refusal) in rows {
+        assert_text(&rt, alloc, text.as_bytes(), Err(refusal), text)?;
+    }
+    let rows: [(u8, Result<(), &str>); 4] = [
+        (1, Ok(())),
+        (63, Ok(())),
+        (64, Err("4 83")),
+        (255, Err("4 83")),
+    ];
+    for (count, want) in rows {
+        let value = in_brackets(alloc, count)?;
+        let text = format!(in alloc; "{BEGUN}p.n = {value}; }}")?;
+        assert_text(&rt, alloc, text.as_bytes(), want, &text)?;
+    }
+    let spaces = vec![in alloc; b' '; 65537]?;
+    assert_text(&rt, alloc, &spaces, Err("1 65537"), "spaces")?;
     Ok(())
 }
 
@@ -147,33 +294,40 @@ fn sum_of(alloc: Global, operators: u8) -> Result<String, AllocError> {
 #[test]
 fn limits(rt: HostRuntime) -> Result<(), Fail> {
     let alloc = rt.alloc();
-    for (fields, before, after, first, second, code) in [
-        (32u8, 0u8, 16u8, 32u8, 32u8, DONE),
-        (1, 16, 0, 0, 0, DONE),
-        (33, 0, 0, 0, 0, PROGRAM),
-        (1, 17, 0, 0, 0, PROGRAM),
-        (1, 0, 17, 0, 0, PROGRAM),
-        (1, 9, 8, 0, 0, PROGRAM),
-        (1, 0, 0, 33, 0, PROGRAM),
-        (1, 0, 0, 0, 33, PROGRAM),
-        (1, 0, 0, 255, 0, PROGRAM),
-    ] {
+    let rows: [(u8, u8, u8, u8, u8, Result<(), &str>); 12] = [
+        (32, 0, 16, 32, 32, Ok(())),
+        (1, 16, 0, 0, 0, Ok(())),
+        (33, 0, 0, 0, 0, Err("10 fields 33")),
+        (1, 17, 0, 0, 0, Err("10 arrays 17")),
+        (1, 0, 17, 0, 0, Err("10 arrays 17")),
+        (1, 9, 8, 0, 0, Err("10 arrays 17")),
+        (1, 0, 0, 33, 0, Ok(())),
+        (1, 0, 0, 0, 33, Ok(())),
+        // The brackets of the body and 63 operators weigh 64. The next operator has 21 tokens and those of
+        // 63 operators before it, and in the second statement the 6 of the first one too.
+        (1, 0, 0, 63, 63, Ok(())),
+        (1, 0, 0, 64, 0, Err("4 209")),
+        (1, 0, 0, 255, 255, Err("4 209")),
+        (1, 0, 0, 0, 64, Err("4 215")),
+    ];
+    for (fields, before, after, first, second, want) in rows {
         let first = sum_of(alloc, first)?;
         let second = sum_of(alloc, second)?;
         let body = format!(in alloc; "p.f0 = {first}; p.f0 = {second};")?;
         let text = wide_program(alloc, fields, before, after, &body)?;
-        assert_text(&rt, alloc, text.as_bytes(), code, &text)?;
+        assert_text(&rt, alloc, text.as_bytes(), want, &text)?;
     }
-    for (before, length, code) in [
-        (0usize, 65536usize, DONE),
-        (65536 - COUNT.len(), 65536, DONE),
-        (0, 65537, PROGRAM),
-        (65537 - COUNT.len(), 65537, PROGRAM),
-        (65537, 65537, PROGRAM),
-        (0, 140000, PROGRAM),
-    ] {
+    let rows: [(usize, usize, Result<(), &str>); 6] = [
+        (0, 65536, Ok(())),
+        (65536 - COUNT.len(), 65536, Ok(())),
+        (0, 65537, Err("1 65537")),
+        (65537 - COUNT.len(), 65537, Err("1 65537")),
+        (65537, 65537, Err("1 65537")),
+        (0, 140000, Err("1 65537")),
+    ];
+    for (before, length, want) in rows {
         let at = format!(in alloc; "{before} {length}")?;
-        assert_text(&rt, alloc, &padded(alloc, before, length)?, code, &at)?;
+        assert_text(&rt, alloc, &padded(alloc, before, length)?, want, &at)?;
     }
     Ok(())
 }
@@ -212,25 +366,86 @@ fn spaced_by(alloc: Global, byte: u8) -> Result<Vec<u8>, AllocError> {
     Ok(text)
 }
 
-// One token is missing or doubled, the text is cut, or other bytes stand between the tokens.
+// A text as a program is refused with this number and these values, or run where none are given.
+fn assert_broken(
+    rt: &impl Abort,
+    alloc: Global,
+    text: &str,
+    refusal: &str,
+) -> Result<(), AllocError> {
+    let want = if refusal.is_empty() {
+        Ok(())
+    } else {
+        Err(refusal)
+    };
+    assert_text(rt, alloc, text.as_bytes(), want, text)
+}
+
+// How a text ends where the token at this place is missing. `struct p )` lacks a name behind `p`, and
+// `= - 2` is in the grammar.
+fn without(alloc: Global, place: usize) -> Result<String, AllocError> {
+    match place {
+        15 => String::from_str(alloc, "3 16"),
+        29 => Ok(String::new(alloc)),
+        _ => format!(in alloc; "3 {place}"),
+    }
+}
+
+// How a text ends where the token at this place is doubled. `struct P P p` has a name too many, and `- - 2` is
+// in the grammar.
+fn doubled(alloc: Global, place: usize) -> Result<String, AllocError> {
+    match place {
+        15 => String::from_str(alloc, "3 17"),
+        30 => Ok(String::new(alloc)),
+        _ => format!(in alloc; "3 {}", place + 1),
+    }
+}
+
+// One token is missing or doubled, or all from one on are.
 #[test]
 fn broken_texts(rt: HostRuntime) -> Result<(), Fail> {
     let alloc = rt.alloc();
-    for place in 0..TOKENS.split(' ').count() {
-        for (times, code) in [(0, PROGRAM), (1, DONE), (2, PROGRAM)] {
-            let text = with_token(alloc, place, times)?;
-            assert_text(&rt, alloc, text.as_bytes(), code, &text)?;
-        }
+    let count = TOKENS.split(' ').count();
+    assert_text(&rt, alloc, TOKENS.as_bytes(), Ok(()), TOKENS)?;
+    for place in 0..count {
+        let text = with_token(alloc, place, 0)?;
+        let want = without(alloc, place)?;
+        assert_broken(&rt, alloc, &text, &want)?;
+        let text = with_token(alloc, place, 2)?;
+        let want = doubled(alloc, place)?;
+        assert_broken(&rt, alloc, &text, &want)?;
     }
-    for end in 0..TOKENS.len() {
-        let text = TOKENS.as_bytes().get(..end).unwrap_or(&[]);
-        assert_text(&rt, alloc, text, PROGRAM, "a text that is cut")?;
+    let mut front = String::new(alloc);
+    for (place, token) in TOKENS.split(' ').enumerate() {
+        let want = format!(in alloc; "3 {place}")?;
+        assert_text(&rt, alloc, front.as_bytes(), Err(&want), &front)?;
+        front.push_str(token)?;
+        front.push(' ')?;
     }
+    Ok(())
+}
+
+// How the text ends with this byte between its tokens. In a sign's place it is the second token. A letter makes
+// the first three tokens a name, and a digit the fourth to the eighth a number.
+fn spaced_want(byte: u8) -> Result<(), &'static str> {
+    match byte {
+        9..=13 | b' ' => Ok(()),
+        b'0'..=b'9' => Err("2 7"),
+        b'A'..=b'Z' | b'a'..=b'z' | b'_' => Err("3 0"),
+        b'!' | b'%' | b'&' | b'(' | b')' | b'*' | b'+' | b',' | b'-' | b'.' | b'/' | b':' | b';' =>
+            { Err("3 1") }
+        b'<' | b'=' | b'>' | b'?' | b'[' | b']' | b'^' | b'{' | b'|' | b'}' | b'~' => Err("3 1"),
+        _ => Err("2 3"),
+    }
+}
+
+// Other bytes stand between the tokens.
+#[test]
+fn spaced_texts(rt: HostRuntime) -> Result<(), Fail> {
+    let alloc = rt.alloc();
     for byte in 0..=255u8 {
-        let is_white = byte == 32 || (9..=13).contains(&byte);
-        let code = if is_white { DONE } else { PROGRAM };
         let at = format!(in alloc; "byte {byte}")?;
-        assert_text(&rt, alloc, &spaced_by(alloc, byte)?, code, &at)?;
+        assert_text(&rt, alloc, &spaced_by(alloc, byte)?, spaced_want(byte), &at)?;
     }
     Ok(())
 }
@@ -248,7 +463,7 @@ fn assert_capture(
     let ended = run(alloc, NAMELESS.as_bytes(), bytes)?;
     let packets = match want {
         Ok(packets) => packets,
-        Err(refusal) => return assert_refused(rt, alloc, &ended, refusal, at),
+        Err(refusal) => return assert_refused(rt, alloc, &ended, CAPTURE, refusal, at),
     };
     let mut out = String::new(alloc);
     for i in 0..packets {
