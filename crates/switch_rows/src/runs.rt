@@ -12,6 +12,52 @@ fn run_on(alloc: Global, program: &str, ports: &[u16]) -> Result<Ended, AllocErr
     run(alloc, program.as_bytes(), &capture)
 }
 
+// Arrays, conditions, start values and operators.
+#[test]
+fn whole_language(rt: HostRuntime) -> Result<(), Fail> {
+    let alloc = rt.alloc();
+    let rows: [(&str, &[u16], &str); 6] = [
+        // 5 modulo 4 is 1, and 65535 modulo 4 is 3.
+        (
+            "#define N 4\nstruct P { int sport; int n; }; int c[N]; void f(struct P p) { c[p.sport] = c[p.sport] + 1; p.n = c[p.sport]; }",
+            &[1, 5, 2, 65535],
+            "pkt 0 sport=1 n=1\npkt 1 sport=5 n=2\npkt 2 sport=2 n=1\npkt 3 sport=65535 n=1\nreg c[1]=2\nreg c[2]=1\nreg c[3]=1\ndone 4\n",
+        ),
+        // The indexes are -1, -2 and -4, so the cells 2, 1 and 2. The first word is the start value.
+        (
+            "struct P { int sport; }; int a[3] = 5; void f(struct P p) { a[0 - p.sport] = p.sport + 4; }",
+            &[1, 2, 4],
+            "pkt 0 sport=1\npkt 1 sport=2\npkt 2 sport=4\nreg a[1]=6\nreg a[2]=8\ndone 3\n",
+        ),
+        // a ends at 0, and b at its start value.
+        (
+            "struct P { int sport; }; int a = {-1}; int b = -1; void f(struct P p) { a = a + p.sport; b = b + 1 - p.sport; }",
+            &[1],
+            "pkt 0 sport=1\nreg a=0\ndone 1\n",
+        ),
+        (
+            "struct P { int sport; int n; }; int t; void f(struct P p) { if (p.sport > 100) { p.n = 1; } else if (p.sport == 7) { p.n = 2; t = t - 1; } else { p.n = 3; } }",
+            &[101, 7, 8],
+            "pkt 0 sport=101 n=1\npkt 1 sport=7 n=2\npkt 2 sport=8 n=3\nreg t=-1\ndone 3\n",
+        ),
+        // An array of one cell that is declared with a length is told with its index.
+        (
+            "int z[1]; int y; struct P { int n; }; int a[2] = 1; void f(struct P p) { a[1] = 4; y = 3; z[0] = 2; }",
+            &[0],
+            "pkt 0 n=0\nreg z[0]=2\nreg y=3\nreg a[1]=4\ndone 1\n",
+        ),
+        (
+            "struct P { int a; int b; int c; int d; int e; }; void f(struct P p) { p.a = -7 / 2; p.b = -7 % 2; p.c = -7 >> 1; p.d = 1 << 33; p.e = p.a ? 5 / 0 : 9; }",
+            &[0],
+            "pkt 0 a=-3 b=-1 c=-4 d=2 e=0\ndone 1\n",
+        ),
+    ];
+    for (program, ports, want) in rows {
+        assert_ended(&rt, &run_on(alloc, program, ports)?, 0, want, program);
+    }
+    Ok(())
+}
+
 #[test]
 fn runs(rt: HostRuntime) -> Result<(), Fail> {
     let alloc = rt.alloc();

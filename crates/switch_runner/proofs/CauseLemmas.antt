@@ -1,5 +1,5 @@
 -- The causes of an answer, from those of each step.
-use Rattle.std.proofs.Common.{◌≡◌, ◌≢◌, ◌≤◌, ◌+◌, ◌-◌, ◌^◌, ◌⊎◌, inl, inr, ℕ, Bool, true, false, List, take, Option, None, Some, refl, sym, ap, subst, arith, min}
+use Rattle.std.proofs.Common.{◌≡◌, ◌≢◌, ◌≤◌, ◌+◌, ◌-◌, ◌^◌, ◌⊎◌, inl, inr, ℕ, Bool, true, false, List, take, Option, None, Some, Ok, refl, sym, ap, subst, ◌∙◌, arith, min}
 use Rattle.std.specs.Prelude.{IfSome}
 use Rattle.std.specs.Str.{bytes_eq}
 use Rattle.std.specs.Bool.{Decides}
@@ -9,23 +9,27 @@ use Rattle.capture_io.specs.ClassicCapture.{Record, IsCapture}
 use Rattle.capture_io.specs.Header.{headers}
 use Rattle.capture_io.proofs.WholeCapture.{one_answer, one_refusal}
 use Rattle.domino_tree.specs.declared.program.Program.{Program}
+use Rattle.domino_syntax.specs.declared.fault.TextFault.{TextFault}
+use Rattle.domino_syntax.specs.ProgramText.{IsProgramText, Refuses as RefusesText}
+use Rattle.domino_syntax.proofs.Texts.{accepts, refuses, one_refusal as one_text_refusal}
+use Rattle.switch_runner.specs.declared.status.ProgramFault.{ProgramFault}
 use Rattle.switch_runner.specs.declared.status.ProgramFault.TheVariants as program
 use Rattle.switch_runner.specs.declared.status.Status.{Status}
 use Rattle.switch_runner.specs.declared.status.Status.TheVariants as status
-use Rattle.switch_runner.specs.Causes.{Seen, Because, IsProgram, IsNoProgram, IsSomeCapture, IsNoCapture, IsAboutProgram, IsReadThrough, OfReport, ProgramAlways, CaptureAlways, IsComplete}
+use Rattle.switch_runner.specs.Causes.{Seen, Because, IsAccepted, IsProgram, IsUnaccepted, IsNoProgram, IsSomeCapture, IsNoCapture, IsAboutProgram, IsReadThrough, OfReport, ProgramAlways, CaptureAlways, IsComplete}
 use Rattle.switch_runner.specs.Outside.{Rose, TookFront, gained}
 use Rattle.switch_runner.specs.Report.{report}
-use Rattle.switch_runner.specs.ThinProgram.{IsAccepted}
+use Rattle.domino_check.specs.Refused.{Passes, Refused}
+use Rattle.domino_check.proofs.RefusedLemmas.{not_refused, one_refusal as one_refusal_of_checks}
 use Rattle.switch_runner.specs.Top.{NoSource, NoHeaders, Ends}
-use Rattle.switch_runner.proofs.TopLemmas.{if_told, capture_read}
+use Rattle.switch_runner.proofs.TopLemmas.{if_told, told_read, capture_read}
 
 -- no program was read
 pub because_source : (s : Status) (seen : Seen) → NoSource seen.text seen.program_before seen.program_after s → seen.new ≡ seen.old → Because s seen
 because_source status.Done seen h e = absurd h
 because_source status.Help seen h e = absurd h
 because_source status.Words seen h e = absurd h
-because_source (status.Program program.NotYet) seen h e = (h, e)
-because_source (status.Program program.NoMemory) seen h e = absurd h
+because_source (status.Program f) seen h e = (h.0, h.1, e)
 because_source (status.Capture f) seen h e = absurd h
 because_source status.ReadFault seen h e = (inl h, e)
 because_source status.WriteFault seen h e = absurd h
@@ -123,12 +127,38 @@ told_as told bytes P e h = let k : IfSome (Some bytes) P = subst (λ (o : Option
 not_both : (bytes : List ℕ) (f : CaptureFault) → IsSomeCapture bytes → IsNoCapture f bytes → ⊥
 not_both bytes f c none = one_answer (take 134217729 bytes) c.0 f (capture_read (take 134217729 bytes) bytes c.0 refl c.1) none
 
--- a told text isn't both a program and none
-not_program : (seen : Seen) (text : List ℕ) → seen.text ≡ Some text → IsNoProgram text → IfSome seen.text IsProgram → ⊥
-not_program seen text e none h = let p = told_as seen.text text IsProgram e h in none p.0 p.1
+-- a text is read to one program
+one_program : (text : List ℕ) (p q : Program) → IsProgramText text p → IsProgramText text q → p ≡ q
+one_program text p q a b = accepts text (Ok p) (a, tt) q b
 
-is_program : (seen : Seen) (text : List ℕ) → seen.text ≡ Some text → IsProgram text → IfSome seen.text IsNoProgram → ⊥
-is_program seen text e p h = told_as seen.text text IsNoProgram e h p.0 p.1
+read_or_refused : (text : List ℕ) (p : Program) (f : TextFault) → IsProgramText text p → RefusesText text f → ⊥
+read_or_refused text p f a r = refuses text (Ok p) (a, tt) f r
+
+-- a text isn't both accepted and not
+accepted_or_not : (text : List ℕ) (p : Program) (f : ProgramFault) → IsProgramText text p → Passes p → IsUnaccepted f text → ⊥
+accepted_or_not text p (program.Text f) a passes fault = read_or_refused text p f a fault
+accepted_or_not text p (program.Check f) a passes fault = not_refused p f passes (subst (λ (q : Program). Refused q f) (one_program text fault.0 p fault.1 a) fault.2)
+accepted_or_not text p program.NoMemory a passes fault = fault
+
+-- a text isn't accepted for one thing
+one_fault : (text : List ℕ) (f g : ProgramFault) → IsUnaccepted f text → IsUnaccepted g text → f ≡ g
+one_fault text (program.Text f) (program.Text g) a b = ap program.Text (one_text_refusal text f g a b)
+one_fault text (program.Text f) (program.Check g) a b = absurd (read_or_refused text b.0 f b.1 a)
+one_fault text (program.Check f) (program.Text g) a b = absurd (read_or_refused text a.0 g a.1 b)
+one_fault text (program.Check f) (program.Check g) a b =
+    ap program.Check (one_refusal_of_checks b.0 f g (subst (λ (q : Program). Refused q f) (one_program text a.0 b.0 a.1 b.1) a.2) b.2)
+one_fault text program.NoMemory g a b = absurd a
+one_fault text f program.NoMemory a b = absurd b
+
+told_or_not : (text : List ℕ) (f : ProgramFault) → IsProgram text → IsNoProgram f text → ⊥
+told_or_not text f a fault = accepted_or_not (take 65537 text) a.0 f (told_read (take 65537 text) text a.0 refl a.1.read) a.1.passes fault
+
+-- a told text isn't both a program and none
+not_program : (seen : Seen) (text : List ℕ) (f : ProgramFault) → seen.text ≡ Some text → IsNoProgram f text → IfSome seen.text IsProgram → ⊥
+not_program seen text f e none h = told_or_not text f (told_as seen.text text IsProgram e h) none
+
+is_program : (seen : Seen) (text : List ℕ) (f : ProgramFault) → seen.text ≡ Some text → IsProgram text → IfSome seen.text (IsNoProgram f) → ⊥
+is_program seen text f e p h = told_or_not text f p (told_as seen.text text (IsNoProgram f) e h)
 
 not_capture : (seen : Seen) (bytes : List ℕ) (f : CaptureFault) → seen.bytes ≡ Some bytes → IsNoCapture f bytes → IfSome seen.bytes IsSomeCapture → ⊥
 not_capture seen bytes f e none h = not_both bytes f (told_as seen.bytes bytes IsSomeCapture e h) none
@@ -141,22 +171,20 @@ no_read_fault : (seen : Seen) → IsReadThrough seen → (Rose seen.program_befo
 no_read_fault seen through h = elim h [ inl r ↦ through.0 r | inr r ↦ through.1 r.1 ]
 
 pub program_always : (s : Status) (seen : Seen) → Because s seen → ProgramAlways s seen
-program_always status.Done seen h text e none through = absurd (not_program seen text e none h.program)
-program_always status.Help seen h text e none through = absurd h
-program_always status.Words seen h text e none through = absurd h
-program_always (status.Program program.NotYet) seen h text e none through = inl refl
-program_always (status.Program program.NoMemory) seen h text e none through = absurd h
-program_always (status.Capture f) seen h text e none through = absurd (not_program seen text e none h.1)
-program_always status.ReadFault seen h text e none through = absurd (no_read_fault seen through h.0)
-program_always status.WriteFault seen h text e none through = absurd (not_program seen text e none h.1.program)
-program_always status.NoMemory seen h text e none through = inr refl
+program_always status.Done seen h text f e none through = absurd (not_program seen text f e none h.program)
+program_always status.Help seen h text f e none through = absurd h
+program_always status.Words seen h text f e none through = absurd h
+program_always (status.Program first) seen h text f e none through = inl (ap status.Program (one_fault (take 65537 text) first f (told_as seen.text text (IsNoProgram first) e h.1) none))
+program_always (status.Capture fault) seen h text f e none through = absurd (not_program seen text f e none h.1)
+program_always status.ReadFault seen h text f e none through = absurd (no_read_fault seen through h.0)
+program_always status.WriteFault seen h text f e none through = absurd (not_program seen text f e none h.1.program)
+program_always status.NoMemory seen h text f e none through = inr refl
 
 pub capture_always : (s : Status) (seen : Seen) → Because s seen → CaptureAlways s seen
 capture_always status.Done seen h text bytes fault e f p none through = absurd (not_capture seen bytes fault f none h.capture)
 capture_always status.Help seen h text bytes fault e f p none through = absurd h
 capture_always status.Words seen h text bytes fault e f p none through = absurd h
-capture_always (status.Program program.NotYet) seen h text bytes fault e f p none through = absurd (is_program seen text e p h.0)
-capture_always (status.Program program.NoMemory) seen h text bytes fault e f p none through = absurd h
+capture_always (status.Program first) seen h text bytes fault e f p none through = absurd (is_program seen text first e p h.1)
 capture_always (status.Capture first) seen h text bytes fault e f p none through = inl (ap status.Capture (one_refusal (take 134217729 bytes) first fault (told_as seen.bytes bytes (IsNoCapture first) f h.2) none))
 capture_always status.ReadFault seen h text bytes fault e f p none through = absurd (no_read_fault seen through h.0)
 capture_always status.WriteFault seen h text bytes fault e f p none through = absurd (not_capture seen bytes fault f none h.1.capture)
@@ -166,8 +194,7 @@ pub complete : (s : Status) (seen : Seen) → Because s seen → IsComplete s se
 complete status.Done seen h text bytes e f p c through out = inl refl
 complete status.Help seen h text bytes e f p c through out = absurd h
 complete status.Words seen h text bytes e f p c through out = absurd h
-complete (status.Program program.NotYet) seen h text bytes e f p c through out = absurd (is_program seen text e p h.0)
-complete (status.Program program.NoMemory) seen h text bytes e f p c through out = absurd h
+complete (status.Program fault) seen h text bytes e f p c through out = absurd (is_program seen text fault e p h.1)
 complete (status.Capture fault) seen h text bytes e f p c through out = absurd (is_capture seen bytes fault f c h.2)
 complete status.ReadFault seen h text bytes e f p c through out = absurd (no_read_fault seen through h.0)
 complete status.WriteFault seen h text bytes e f p c through out = absurd (out h.0)

@@ -1,6 +1,5 @@
-pub mod NumberedRun
-pub mod PassesChecks
-pub mod PacketLengths
+pub mod Lengths
+pub mod RunLemmas
 pub mod WritingLemmas
 pub mod TransferLemmas
 pub mod ReportLemmas

@@ -1,10 +1,12 @@
 -- The text from a field or a register on.
-use Rattle.std.proofs.Common.{◌≡◌, ◌∙◌, ◌<◌, ◌≤◌, ◌+◌, ◌-◌, ◌*◌, take, arith, codes, decimal, append_assoc, ℕ, suc, ℤ, List, [], ◌∷◌, ◌++◌, length, drop, get_or, Some, refl, sym, ap, add-one, drop-cons}
+use Rattle.std.proofs.Common.{◌≡◌, ◌∙◌, ◌<◌, ◌≤◌, ◌+◌, ◌-◌, ◌*◌, take, arith, codes, decimal, append_assoc, ℕ, zero, suc, ℤ, pos, List, [], ◌∷◌, ◌++◌, map, length, drop, get_or, Some, refl, sym, ap, add-one, drop-cons}
 use Rattle.std.specs.List.{slice_get}
 use Rattle.capture_io.specs.Rows.{rows}
-use Rattle.std.proofs.lemmas.List.{append-nil}
+use Rattle.std.proofs.lemmas.List.{append-nil, length-map, drop_more}
 use Rattle.std.proofs.lemmas.Option.{get_or_from_slice_get}
-use Rattle.switch_runner.specs.Report.{field_text, fields_text, packet_line, packet_lines, register_line, register_lines}
+use Rattle.domino_tree.specs.Value.{word_at, cells_at}
+use Rattle.domino_check.specs.declared.numbered.ArrayInfo.{ArrayInfo}
+use Rattle.switch_runner.specs.Report.{field_text, fields_text, packet_line, packet_lines, cell_line, cell_lines, register_lines, HasCells}
 
 both : {A B : Type 0} (f : A → B → List ℕ) (a a' : A) (b b' : B) → a ≡ a' → b ≡ b' → f a b ≡ f a' b'
 both f a a' b b' p q = ap (λ x. f x b) p ∙ ap (f a') q
@@ -15,11 +17,31 @@ fields_from ns zs i n z d h k e f =
     rw (add-one, drop-cons ns i n, drop-cons zs i d)
     (ap (λ l. l ++ fields_text (drop (suc i) ns) (drop (suc i) zs)) (both field_text (get_or ns i n) n (get_or zs i d) z (get_or_from_slice_get ns i n n e) (sym f)))
 
-pub registers_from : (ns : List (List ℕ)) (zs : List ℤ) (i : ℕ) (n : List ℕ) (z d : ℤ) → i < length ns → i < length zs → n ≡ get_or ns i n → z ≡ get_or zs i d
-    → register_lines (drop i ns) (drop i zs) ≡ register_line n z ++ register_lines (drop (i + 1) ns) (drop (i + 1) zs)
-registers_from ns zs i n z d h k e f =
-    rw (add-one, drop-cons ns i n, drop-cons zs i d)
-    (ap (λ l. l ++ register_lines (drop (suc i) ns) (drop (suc i) zs)) (both register_line (get_or ns i n) n (get_or zs i d) z (sym e) (sym f)))
+-- the lines of a cell and of those after it
+pub cells_from : (info : ArrayInfo) (zs : List ℤ) (i : ℕ) (z : ℤ) → i < length zs → z ≡ word_at zs i
+    → cell_lines info i (drop i zs) ≡ cell_line info i z ++ cell_lines info (i + 1) (drop (i + 1) zs)
+cells_from info zs i z h e =
+    rw (drop_more zs i (pos 0) h)
+    (ap (λ y. cell_line info i y ++ cell_lines info (i + 1) (drop (i + 1) zs)) (sym e))
+
+-- the lines of an array and of those after it
+pub arrays_from : (infos : List ArrayInfo) (cells : List (List ℤ)) (a : ℕ) (info : ArrayInfo) → a < length infos → a < length cells → info ≡ get_or infos a info
+    → register_lines (drop a infos) (drop a cells) ≡ cell_lines info 0 (cells_at cells a) ++ register_lines (drop (a + 1) infos) (drop (a + 1) cells)
+arrays_from infos cells a info h k e =
+    rw (drop_more infos a info h, drop_more cells a [] k)
+    (ap (λ y. cell_lines y 0 (cells_at cells a) ++ register_lines (drop (a + 1) infos) (drop (a + 1) cells)) (sym e))
+
+-- an array has the cells that it is declared with
+pub cells_of_array : (infos : List ArrayInfo) (cells : List (List ℤ)) (a : ℕ) (info : ArrayInfo) → a < length infos → info ≡ get_or infos a info → HasCells infos cells
+    → length (cells_at cells a) ≡ info.length
+cells_of_array (i ∷ infos) (c ∷ cells) zero info h e has = (let f : length c ≡ i.length = cc in f) ∙ ap (λ (x : ArrayInfo). x.length) (sym e)
+cells_of_array (i ∷ infos) (c ∷ cells) (suc a) info h e has = cells_of_array infos cells a info (omega arith) e (let f : HasCells infos cells = cc in f)
+cells_of_array (i ∷ infos) [] a info h e has = absurd (let f : ⊥ = cc in f)
+cells_of_array [] cells a info h e has = absurd (omega arith)
+
+-- there are as many arrays as are declared
+pub count_of_arrays : (infos : List ArrayInfo) (cells : List (List ℤ)) → HasCells infos cells → length cells ≡ length infos
+count_of_arrays infos cells has = sym (length-map cells (λ (c : List ℤ). length c)) ∙ ap length has ∙ length-map infos (λ (i : ArrayInfo). i.length)
 
 -- the parts of a packet's line, as they are put
 pub packet_parts : (names : List (List ℕ)) (t : ℕ) (packet : List ℤ) (digits : List ℕ) → digits ≡ decimal t

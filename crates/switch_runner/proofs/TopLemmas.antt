@@ -1,26 +1,22 @@
 -- From words in one list back to packets, and from what was read to what is told.
-use Rattle.std.proofs.Common.{◌≡◌, ◌∙◌, ◌≤◌, ◌+◌, ◌*◌, ℕ, suc, ℤ, pos, List, [], ◌∷◌, ◌++◌, length, map, take, drop, refl, sym, ap, subst, arith, length-append}
+use Rattle.std.proofs.Common.{◌≡◌, ◌∙◌, ◌≤◌, ◌+◌, ◌*◌, ℕ, suc, ℤ, List, [], ◌∷◌, ◌++◌, length, map, take, drop, refl, sym, ap, subst, arith, length-append}
 use Rattle.std.specs.List.{flat_map}
-use Rattle.std.specs.Prelude.{true, Result, Ok, Err, IfOk, OnOk, Option, None, Some, IfSome}
+use Rattle.std.specs.Prelude.{Option, None, Some, IfSome}
 use Rattle.std.proofs.lemmas.List.{take_all, length-take}
 use Rattle.std.proofs.Math.Seq.{take-append_seam, drop-append_seam}
-use Rattle.std.proofs.lemmas.List.{length-set, length-map}
+use Rattle.std.proofs.lemmas.List.{length-map}
 use Rattle.capture_io.specs.ClassicCapture.{Record, IsCapture}
 use Rattle.capture_io.specs.Header.{field, header, start_of, headers}
 use Rattle.capture_io.specs.Rows.{rows}
 use Rattle.domino_tree.specs.declared.program.Program.{Program}
-use Rattle.domino_tree.specs.declared.program.Stmt.{Stmt}
-use Rattle.domino_tree.specs.declared.program.Stmt.TheVariants.{Set}
-use Rattle.domino_tree.specs.declared.program.Target.TheVariants as target
-use Rattle.domino_tree.specs.Meaning.{Names, State, names_of, place_of, value, step, exec, run_from, start, one}
-use Rattle.switch_runner.specs.declared.resolve.Resolved.{Resolved}
-use Rattle.switch_runner.specs.Numbered.{IsEnd, run_body}
-use Rattle.switch_runner.specs.Report.{words_text, report}
-use Rattle.domino_syntax.specs.ThinText.{IsThinText}
-use Rattle.switch_runner.specs.declared.status.ProgramFault.{ProgramFault}
-use Rattle.switch_runner.specs.ThinProgram.{IsAccepted, passes_checks}
-use Rattle.switch_runner.specs.Top.{Stands, AreWide}
-use Rattle.switch_runner.proofs.PacketLengths.{one-lengths}
+use Rattle.domino_tree.specs.Sequential.{one}
+use Rattle.domino_check.specs.declared.numbered.ArrayInfo.{ArrayInfo}
+use Rattle.domino_check.specs.Infos.{infos_of}
+use Rattle.switch_runner.specs.Causes.{IsAccepted}
+use Rattle.switch_runner.specs.Report.{HasCells, run_text, report}
+use Rattle.switch_runner.proofs.Lengths.{one-packets, one-cells}
+use Rattle.domino_syntax.specs.ProgramText.{IsProgramText}
+use Rattle.switch_runner.specs.Top.{AreWide}
 
 wide_from : (names : List (List ℕ)) (start : ℕ) (records : List Record) → AreWide (length names) (map (header names start) records)
 wide_from names start [] = tt
@@ -29,10 +25,10 @@ wide_from names start (r ∷ rs) = (length-map names (field start r), wide_from 
 pub wide_headers : (names : List (List ℕ)) (records : List Record) → AreWide (length names) (headers names records)
 wide_headers names records = wide_from names (start_of records) records
 
-wide_same : (width : ℕ) (ps hs : List (List ℤ)) → map length ps ≡ map length hs → AreWide width hs → AreWide width ps
+wide_same : (width : ℕ) (ps hs : List (List ℤ)) → map (λ (c : List ℤ). length c) ps ≡ map (λ (c : List ℤ). length c) hs → AreWide width hs → AreWide width ps
 wide_same width [] hs e w = tt
 wide_same width (p ∷ ps) [] e w = absurd (let f : ⊥ = cc in f)
-wide_same width (p ∷ ps) (h ∷ hs) e w = (let f : length p ≡ length h = cc in f ∙ w.0, wide_same width ps hs (let f : map length ps ≡ map length hs = cc in f) w.1)
+wide_same width (p ∷ ps) (h ∷ hs) e w = (let f : length p ≡ length h = cc in f ∙ w.0, wide_same width ps hs (let f : map (λ (c : List ℤ). length c) ps ≡ map (λ (c : List ℤ). length c) hs = cc in f) w.1)
 
 -- one row and the rest
 rows_step : (p rest : List ℤ) (n : ℕ) → rows (suc n) (length p) (p ++ rest) ≡ p ∷ rows n (length p) rest
@@ -49,51 +45,41 @@ flat_length : (width : ℕ) (ps : List (List ℤ)) → AreWide width ps → leng
 flat_length width [] w = omega arith
 flat_length width (p ∷ ps) w = omega (arith, length-append p (flat_map (λ p. p) ps), w.0, flat_length width ps w.1)
 
-step_cells : (names : Names) (x : Stmt) (s : State) → length (step names x s).cells ≡ length s.cells
-step_cells names (Set (target.Word w) e) s = length-set s.cells (place_of w names.cells) (value names e s)
-step_cells names (Set (target.Field p f) e) s = refl
-
-exec_cells : (names : Names) (statements : List Stmt) (s : State) → length (exec names statements s).cells ≡ length s.cells
-exec_cells names [] s = refl
-exec_cells names (x ∷ xs) s = exec_cells names xs (step names x s) ∙ step_cells names x s
-
-run_cells : (names : Names) (statements : List Stmt) (cells : List ℤ) (hs : List (List ℤ)) → length (run_from names statements cells hs).cells ≡ length cells
-run_cells names statements cells [] = refl
-run_cells names statements cells (h ∷ hs) =
-    let s : State = record { fields = h; cells = cells } in
-    run_cells names statements (exec names statements s).cells hs ∙ exec_cells names statements s
-
-one_cells : (p : Program) (hs : List (List ℤ)) → length (one p hs).cells ≡ length (names_of p).cells
-one_cells p hs = run_cells (names_of p) p.function.body (start p) hs ∙ length-map (names_of p).cells (λ _. pos 0)
-
 -- how many packets a run has
 packet_count : (p : Program) (hs : List (List ℤ)) → length (one p hs).packets ≡ length hs
-packet_count p hs = sym (length-map (one p hs).packets length) ∙ ap length (one-lengths p hs) ∙ length-map hs length
+packet_count p hs = sym (length-map (one p hs).packets (λ (c : List ℤ). length c)) ∙ ap length (one-packets p hs) ∙ length-map hs (λ (c : List ℤ). length c)
 
--- the words at the end of a run are the report's packets and registers
-pub words_length : (r : Resolved) (p : Program) (hs : List (List ℤ)) (count : ℕ) (words cells : List ℤ) → Stands r p → AreWide (length r.fields) hs → count ≡ length hs
-    → IsEnd (one p hs) words cells → length words ≡ count * length r.fields
-words_length r p hs count words cells s w e end =
+-- the words at the end of a run are those of its packets
+pub words_length : (p : Program) (hs : List (List ℤ)) (fields : List (List ℕ)) (count : ℕ) (words : List ℤ) → AreWide (length p.packet.fields) hs → count ≡ length hs → fields ≡ p.packet.fields
+    → words ≡ flat_map (λ p. p) (one p hs).packets → length words ≡ count * length fields
+words_length p hs fields count words w e f packets =
     let n : length (one p hs).packets ≡ count = packet_count p hs ∙ sym e in
-    ap length end.packets ∙ flat_length (length r.fields) (one p hs).packets (wide_same (length r.fields) (one p hs).packets hs (one-lengths p hs) w) ∙ ap (λ k. k * length r.fields) n
+    ap length packets
+    ∙ flat_length (length p.packet.fields) (one p hs).packets (wide_same (length p.packet.fields) (one p hs).packets hs (one-packets p hs) w)
+    ∙ ap (λ k. k * length p.packet.fields) n
+    ∙ ap (λ l. count * length l) (sym f)
 
-pub cells_length : (r : Resolved) (p : Program) (hs : List (List ℤ)) (names : List (List ℕ)) (words cells : List ℤ) → Stands r p → names ≡ r.cells.items → IsEnd (one p hs) words cells → length cells ≡ length names
-cells_length r p hs names words cells s same end = ap length end.registers ∙ one_cells p hs ∙ sym (ap length same ∙ ap length s.cells)
+-- each array has its cells at the end of a run
+pub has_cells : (p : Program) (hs : List (List ℤ)) (infos : List ArrayInfo) (cells : List (List ℤ)) → infos ≡ infos_of p → cells ≡ (one p hs).cells → HasCells infos cells
+has_cells p hs infos cells i at_end = subst (λ (l : List ArrayInfo). HasCells l cells) (sym i) (subst (HasCells (infos_of p)) (sym at_end) (one-cells p hs))
 
-pub text_is : (r : Resolved) (p : Program) (hs : List (List ℤ)) (count : ℕ) (names : List (List ℕ)) (words cells : List ℤ) → Stands r p → AreWide (length r.fields) hs → count ≡ length hs
-    → names ≡ r.cells.items → IsEnd (one p hs) words cells → words_text r.fields names (rows count (length r.fields) words) cells count ≡ report p hs
-text_is r p hs count names words cells s w e same end =
+-- what stands at the end of a run is told as its report
+pub text_is : (p : Program) (hs : List (List ℤ)) (fields : List (List ℕ)) (infos : List ArrayInfo) (count : ℕ) (words : List ℤ) (cells : List (List ℤ)) → AreWide (length p.packet.fields) hs
+    → count ≡ length hs → fields ≡ p.packet.fields → infos ≡ infos_of p → words ≡ flat_map (λ p. p) (one p hs).packets → cells ≡ (one p hs).cells
+    → run_text fields infos (rows count (length fields) words) cells count ≡ report p hs
+text_is p hs fields infos count words cells w e f i packets at_end =
     let ps : List (List ℤ) = (one p hs).packets in
+    let width : ℕ = length p.packet.fields in
     let n : length ps ≡ count = packet_count p hs ∙ sym e in
-    let back : rows count (length r.fields) words ≡ ps =
-    ap (rows count (length r.fields)) end.packets
-    ∙ ap (λ k. rows k (length r.fields) (flat_map (λ p. p) ps)) (sym n)
-    ∙ rows_back (length r.fields) ps (wide_same (length r.fields) ps hs (one-lengths p hs) w) in
-    ap (λ l. words_text r.fields names l cells count) back
-    ∙ ap (λ l. words_text l names ps cells count) s.fields
-    ∙ ap (λ l. words_text (names_of p).fields l ps cells count) (same ∙ s.cells)
-    ∙ ap (λ l. words_text (names_of p).fields (names_of p).cells ps l count) end.registers
-    ∙ ap (words_text (names_of p).fields (names_of p).cells ps (one p hs).cells) e
+    let back : rows count width words ≡ ps =
+    ap (rows count width) packets
+    ∙ ap (λ k. rows k width (flat_map (λ p. p) ps)) (sym n)
+    ∙ rows_back width ps (wide_same width ps hs (one-packets p hs) w) in
+    ap (λ l. run_text l infos (rows count (length l) words) cells count) f
+    ∙ ap (λ l. run_text p.packet.fields infos l cells count) back
+    ∙ ap (λ l. run_text p.packet.fields l ps cells count) i
+    ∙ ap (λ l. run_text p.packet.fields (infos_of p) ps l count) at_end
+    ∙ ap (run_text p.packet.fields (infos_of p) ps (one p hs).cells) e
 
 -- what was read to one byte past a limit, and is within it, is all that is told
 whole : (limit : ℕ) (bytes : List ℕ) → length (take (limit + 1) bytes) ≤ limit → take (limit + 1) bytes ≡ bytes
@@ -103,25 +89,20 @@ whole limit bytes h = take_all (limit + 1) bytes (omega (arith, length-take (lim
 all_read : (limit : ℕ) (bytes : List ℕ) → length bytes ≤ limit → take (limit + 1) bytes ≡ bytes
 all_read limit bytes h = take_all (limit + 1) bytes (omega arith)
 
-pub accepted_told : (read told : List ℕ) (p : Program) → read ≡ take 65537 told → IsAccepted read p → IsAccepted told p
-accepted_told read told p e a = subst (λ (l : List ℕ). IsAccepted l p) (e ∙ whole 65536 told (subst (λ (l : List ℕ). length l ≤ 65536) e a.read.short)) a
+pub read_told : (read told : List ℕ) (p : Program) → read ≡ take 65537 told → IsProgramText read p → IsProgramText told p
+read_told read told p e a = subst (λ (l : List ℕ). IsProgramText l p) (e ∙ whole 65536 told (subst (λ (l : List ℕ). length l ≤ 65536) e a.cuts.short)) a
 
-pub accepted_read : (read told : List ℕ) (p : Program) → read ≡ take 65537 told → IsAccepted told p → IsAccepted read p
-accepted_read read told p e a = subst (λ (l : List ℕ). IsAccepted l p) (sym (e ∙ all_read 65536 told a.read.short)) a
+pub told_read : (read told : List ℕ) (p : Program) → read ≡ take 65537 told → IsProgramText told p → IsProgramText read p
+told_read read told p e a = subst (λ (l : List ℕ). IsProgramText l p) (sym (e ∙ all_read 65536 told a.cuts.short)) a
+
+pub accepted_told : (read told : List ℕ) (p : Program) → read ≡ take 65537 told → IsAccepted read p → IsAccepted told p
+accepted_told read told p e a = record { read = read_told read told p e a.read; passes = a.passes }
 
 pub capture_told : (read told : List ℕ) (records : List Record) → read ≡ take 134217729 told → IsCapture read records → IsCapture told records
 capture_told read told records e a = subst (λ (l : List ℕ). IsCapture l records) (e ∙ whole 134217728 told (subst (λ (l : List ℕ). length l ≤ 134217728) e a.size)) a
 
 pub capture_read : (read told : List ℕ) (records : List Record) → read ≡ take 134217729 told → IsCapture told records → IsCapture read records
 capture_read read told records e a = subst (λ (l : List ℕ). IsCapture l records) (sym (e ∙ all_read 134217728 told a.size)) a
-
--- a text that is read, and whose names pass, is accepted
-pub accepted_as : (result : Result Resolved ProgramFault) (text : List ℕ) (p : Program) → IsThinText text p
-    → IfOk result (λ r. r.fields ≡ (names_of p).fields) → IfOk result (λ r. r.cells.items ≡ (names_of p).cells)
-    → IfOk result (λ r. (s : State) → run_body r.body.items s ≡ exec (names_of p) p.function.body s) → OnOk result (passes_checks p ≡ true)
-    → IfOk result (λ r. (p : Program) × IsAccepted text p × Stands r p)
-accepted_as (Ok r) text p t fields cells body checked = (p, record { read = t; checked = checked }, record { fields = fields; cells = cells; body = body })
-accepted_as (Err f) text p t fields cells body checked = tt
 
 -- what follows of all that may be told
 pub if_told : (told : Option (List ℕ)) (P Q : List ℕ → Type 0) → ((bytes : List ℕ) → P bytes → Q bytes) → IfSome told P → IfSome told Q

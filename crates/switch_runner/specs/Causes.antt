@@ -1,19 +1,23 @@
 -- The causes of each answer of the top call.
-use Rattle.std.specs.Prelude.{◌≡◌, ◌≢◌, ◌⊎◌, ℕ, List, [], take, codes, Option, Some, IfSome}
+use Rattle.std.specs.Prelude.{◌≡◌, ◌≢◌, ◌⊎◌, ℕ, Bool, true, false, List, [], take, codes, Option, Some, IfSome}
 use Rattle.capture_io.specs.declared.fault.CaptureFault.{CaptureFault}
 use Rattle.capture_io.specs.declared.fault.CaptureFault.TheVariants as capture
 use Rattle.capture_io.specs.ClassicCapture.{Record, IsCapture}
 use Rattle.capture_io.specs.Header.{headers}
 use Rattle.capture_io.specs.Refusal.{Refuses}
 use Rattle.domino_tree.specs.declared.program.Program.{Program}
+use Rattle.domino_syntax.specs.declared.fault.TextFault.TheVariants as text_fault
+use Rattle.domino_syntax.specs.ProgramText.{IsProgramText, Refuses as RefusesText}
+use Rattle.domino_check.specs.declared.fault.CheckFault.TheVariants as check_fault
+use Rattle.domino_check.specs.Refused.{Passes, Refused}
+use Rattle.switch_runner.specs.declared.status.ProgramFault.{ProgramFault}
 use Rattle.switch_runner.specs.declared.status.ProgramFault.TheVariants as program
 use Rattle.switch_runner.specs.declared.status.Status.{Status}
 use Rattle.switch_runner.specs.declared.status.Status.TheVariants as status
 use Rattle.switch_runner.specs.Outside.{Rose, TookFront, gained}
 use Rattle.switch_runner.specs.HelpText.{help_text}
-use Rattle.switch_runner.specs.RefusalLine.{refusal_line}
+use Rattle.switch_runner.specs.RefusalLine.{program_line, refusal_line}
 use Rattle.switch_runner.specs.Report
-use Rattle.switch_runner.specs.ThinProgram.{IsAccepted}
 
 -- what a call saw of the outside: what the store tells of the program and of the capture, the counts of
 -- faults of the two names and of the output before and after, and what the output has taken
@@ -44,13 +48,33 @@ saw told before after out_before out_after old new program capture = record {
   new = new;
 }
 
+-- the text is a program of the grammar, which passes the checks
+pub record IsAccepted (text : List ℕ) (program : Program) : Type 0 where
+  pub read : IsProgramText text program
+  pub passes : Passes program
+
 -- the told text is accepted as some program
 abbrev pub IsProgram : List ℕ → Type 0
 IsProgram text = (p : Program) × IsAccepted text p
 
--- the told text is accepted as no program
-abbrev pub IsNoProgram : List ℕ → Type 0
-IsNoProgram text = (p : Program) → ¬ IsAccepted text p
+-- memory ran out: such a fault is never told as one of the program
+abbrev pub lacks_memory : ProgramFault → Bool
+lacks_memory (program.Text text_fault.NoMemory) = true
+lacks_memory (program.Text f) = false
+lacks_memory (program.Check check_fault.NoMemory) = true
+lacks_memory (program.Check f) = false
+lacks_memory program.NoMemory = true
+
+-- the text isn't accepted for this: it isn't read, or it is read to a program that the checks refuse
+abbrev pub IsUnaccepted : ProgramFault → List ℕ → Type 0
+IsUnaccepted (program.Text f) text = RefusesText text f
+IsUnaccepted (program.Check f) text = (p : Program) × IsProgramText text p × Refused p f
+IsUnaccepted program.NoMemory text = ⊥
+
+-- the told text isn't accepted for this; it is read to at most one byte past the limit of 65536, so that a
+-- longer one is too long with 65537 bytes
+abbrev pub IsNoProgram : ProgramFault → List ℕ → Type 0
+IsNoProgram f text = IsUnaccepted f (take 65537 text)
 
 -- the told bytes are a capture of some records
 abbrev pub IsSomeCapture : List ℕ → Type 0
@@ -78,8 +102,7 @@ abbrev pub Because : Status → Seen → Type 0
 Because status.Done seen = OfReport seen (λ text. seen.new ≡ gained text seen.old)
 Because status.Help seen = ⊥
 Because status.Words seen = ⊥
-Because (status.Program program.NotYet) seen = IfSome seen.text IsNoProgram × IsUnwritten seen
-Because (status.Program program.NoMemory) seen = ⊥
+Because (status.Program f) seen = (lacks_memory f ≡ false) × IfSome seen.text (IsNoProgram f) × IsUnwritten seen
 Because (status.Capture f) seen = (f ≢ capture.NoMemory) × IfSome seen.text IsProgram × IfSome seen.bytes (IsNoCapture f) × IsUnwritten seen
 Because status.ReadFault seen =
     (Rose seen.program_before seen.program_after ⊎ (IfSome seen.text IsProgram × Rose seen.capture_before seen.capture_after)) × IsUnwritten seen
@@ -98,9 +121,9 @@ IsOrNoMemory answer s = (answer ≡ s) ⊎ (answer ≡ status.NoMemory)
 abbrev pub ComesWhere : Type 0 → Status → Status → Type 0
 ComesWhere P answer s = (answer ≡ s → P) × (P → IsOrNoMemory answer s)
 
--- a told text that is no program is always answered so
+-- a told text that isn't accepted is always answered by what it isn't accepted for
 abbrev pub ProgramAlways : Status → Seen → Type 0
-ProgramAlways answer seen = (text : List ℕ) → seen.text ≡ Some text → IsNoProgram text → IsReadThrough seen → IsOrNoMemory answer (status.Program program.NotYet)
+ProgramAlways answer seen = (text : List ℕ) (f : ProgramFault) → seen.text ≡ Some text → IsNoProgram f text → IsReadThrough seen → IsOrNoMemory answer (status.Program f)
 
 -- told bytes that are refused as a capture, under a told program, are always answered by their first refusal
 abbrev pub CaptureAlways : Status → Seen → Type 0
@@ -126,8 +149,7 @@ abbrev pub line : Status → List ℕ
 line status.Done = []
 line status.Help = help_text
 line status.Words = codes "mp5: words\n"
-line (status.Program program.NotYet) = codes "mp5: program 40\n"
-line (status.Program program.NoMemory) = codes "mp5: no memory\n"
+line (status.Program f) = program_line f
 line (status.Capture f) = refusal_line f
 line status.ReadFault = codes "mp5: read fault\n"
 line status.WriteFault = codes "mp5: write fault\n"

@@ -1,7 +1,17 @@
--- The line that tells of a refused capture: the refusal's number and the values that it keeps.
+-- The lines that tell of a refused program and of a refused capture: the refusal's number and the values that
+-- it keeps.
 use Rattle.std.specs.Prelude.{ℕ, ◌+◌, ◌^◌, ◌/◌, ◌%◌, nat_lt, if◌then◌else◌, List, [], ◌∷◌, ◌++◌, map, codes, decimal}
+use Rattle.std.specs.Fmt.{signed_decimal}
 use Rattle.capture_io.specs.declared.fault.CaptureFault.{CaptureFault}
 use Rattle.capture_io.specs.declared.fault.CaptureFault.TheVariants.{TooLong, ShortHeader, PcapNg, BadMagic, Version, LinkType, LongRecord, Truncated, TooMany, NoMemory}
+use Rattle.domino_syntax.specs.declared.fault.TextFault.{TextFault}
+use Rattle.domino_syntax.specs.declared.fault.TextFault.TheVariants as text
+use Rattle.domino_check.specs.declared.fault.What.{What}
+use Rattle.domino_check.specs.declared.fault.What.TheVariants as what
+use Rattle.domino_check.specs.declared.fault.CheckFault.{CheckFault}
+use Rattle.domino_check.specs.declared.fault.CheckFault.TheVariants as check
+use Rattle.switch_runner.specs.declared.status.ProgramFault.{ProgramFault}
+use Rattle.switch_runner.specs.declared.status.ProgramFault.TheVariants as program
 
 -- a hexadecimal digit, with `a` to `f` in lower case
 abbrev pub hex_digit : ℕ → ℕ
@@ -19,7 +29,48 @@ with_one text n = text ++ (decimal n ++ (10 ∷ []))
 abbrev pub with_two : List ℕ → ℕ → ℕ → List ℕ
 with_two text a b = text ++ (decimal a ++ (32 ∷ (decimal b ++ (10 ∷ []))))
 
--- the line of a refusal; want of memory has that of its own status
+-- the line of a text that isn't read; want of memory has that of its own status
+abbrev pub text_line : TextFault → List ℕ
+text_line (text.TooLong n) = with_one (codes "mp5: program 1 ") n
+text_line (text.BadToken at) = with_one (codes "mp5: program 2 ") at
+text_line (text.TooDeep n) = with_one (codes "mp5: program 4 ") n
+text_line (text.Syntax n) = with_one (codes "mp5: program 3 ") n
+text_line text.NoMemory = codes "mp5: no memory\n"
+
+-- a text and a name, as a line
+abbrev pub with_name : List ℕ → List ℕ → List ℕ
+with_name text name = text ++ (name ++ (10 ∷ []))
+
+-- what there are too many of, as a word
+abbrev pub what_word : What → List ℕ
+what_word what.Defines = codes "defines"
+what_word what.Fields = codes "fields"
+what_word what.Arrays = codes "arrays"
+what_word what.Cells = codes "cells"
+
+-- a text, and a word and digits with a space between them, as a line
+abbrev pub with_pair : List ℕ → List ℕ → List ℕ → List ℕ
+with_pair text word digits = text ++ (word ++ (32 ∷ (digits ++ (10 ∷ []))))
+
+-- the line of a program that a check refuses
+abbrev pub check_line : CheckFault → List ℕ
+check_line (check.Twice name) = with_name (codes "mp5: program 5 ") name
+check_line (check.Unknown name) = with_name (codes "mp5: program 6 ") name
+check_line (check.WrongKind name) = with_name (codes "mp5: program 7 ") name
+check_line (check.Arity name) = with_name (codes "mp5: program 8 ") name
+check_line (check.BadLength name z) = with_pair (codes "mp5: program 9 ") name (signed_decimal z)
+check_line (check.TooMany w n) = with_pair (codes "mp5: program 10 ") (what_word w) (decimal n)
+check_line (check.IndexDiffers name) = with_name (codes "mp5: program 11 ") name
+check_line (check.IndexMoves name) = with_name (codes "mp5: program 12 ") name
+check_line check.NoMemory = codes "mp5: no memory\n"
+
+-- the line of a refused program
+abbrev pub program_line : ProgramFault → List ℕ
+program_line (program.Text f) = text_line f
+program_line (program.Check f) = check_line f
+program_line program.NoMemory = codes "mp5: no memory\n"
+
+-- the line of a refused capture
 abbrev pub refusal_line : CaptureFault → List ℕ
 refusal_line (TooLong n) = with_one (codes "mp5: capture 1 ") n
 refusal_line (ShortHeader n) = with_one (codes "mp5: capture 2 ") n

@@ -1,8 +1,13 @@
 -- The text of a report.
-use Rattle.std.specs.Prelude.{ℕ, zero, suc, ◌+◌, ℤ, pos, negsuc, List, [], ◌∷◌, ◌++◌, length, codes, decimal}
+use Rattle.std.specs.Prelude.{◌≡◌, ℕ, ◌+◌, ℤ, if◌then◌else◌, List, [], ◌∷◌, ◌++◌, map, length, codes, decimal}
 use Rattle.std.specs.Fmt.{signed_decimal}
+use Rattle.std.specs.Ordering.{int_eq}
 use Rattle.domino_tree.specs.declared.program.Program.{Program}
-use Rattle.domino_tree.specs.Meaning.{names_of, one, Names, Outcome}
+use Rattle.domino_tree.specs.Sequential.{one}
+use Rattle.domino_check.specs.declared.numbered.ArrayInfo.{ArrayInfo}
+use Rattle.domino_check.specs.Infos.{infos_of}
+
+-- ---- packets
 
 -- a space, the field's name, `=` and its value
 abbrev pub field_text : List ℕ → ℤ → List ℕ
@@ -23,30 +28,45 @@ abbrev pub packet_lines : List (List ℕ) → ℕ → List (List ℤ) → List �
 packet_lines names t [] = []
 packet_lines names t (p ∷ ps) = packet_line names t p ++ packet_lines names (t + 1) ps
 
--- `reg A=V`, where the register isn't 0, its start value
-abbrev pub register_line : List ℕ → ℤ → List ℕ
-register_line name (pos zero) = []
-register_line name (pos (suc n)) = codes "reg " ++ (name ++ (61 ∷ (signed_decimal (pos (suc n)) ++ (10 ∷ []))))
-register_line name (negsuc n) = codes "reg " ++ (name ++ (61 ∷ (signed_decimal (negsuc n) ++ (10 ∷ []))))
+-- ---- registers
 
--- the registers in order of declaration
-abbrev pub register_lines : List (List ℕ) → List ℤ → List ℕ
-register_lines [] values = []
-register_lines (n ∷ ns) [] = []
-register_lines (n ∷ ns) (z ∷ zs) = register_line n z ++ register_lines ns zs
+-- `A`, where the array is declared without a length, and else `A[I]`
+abbrev pub cell_name : ArrayInfo → ℕ → List ℕ
+cell_name info i = if info.scalar then info.name else info.name ++ (91 ∷ (decimal i ++ (93 ∷ [])))
+
+-- `reg A=V` or `reg A[I]=V`
+abbrev pub register_line : List ℕ → ℤ → List ℕ
+register_line name z = codes "reg " ++ (name ++ (61 ∷ (signed_decimal z ++ (10 ∷ []))))
+
+-- the line of a cell that differs from its start value
+abbrev pub cell_line : ArrayInfo → ℕ → ℤ → List ℕ
+cell_line info i z = if int_eq z info.start then [] else register_line (cell_name info i) z
+
+-- the cells from cell i on
+abbrev pub cell_lines : ArrayInfo → ℕ → List ℤ → List ℕ
+cell_lines info i [] = []
+cell_lines info i (z ∷ zs) = cell_line info i z ++ cell_lines info (i + 1) zs
+
+-- the arrays in order of declaration
+abbrev pub register_lines : List ArrayInfo → List (List ℤ) → List ℕ
+register_lines [] cells = []
+register_lines (i ∷ infos) [] = []
+register_lines (i ∷ infos) (c ∷ cells) = cell_lines i 0 c ++ register_lines infos cells
+
+-- each array has as many cells as it is declared with
+abbrev pub HasCells : List ArrayInfo → List (List ℤ) → Type 0
+HasCells infos cells = map (λ (c : List ℤ). length c) cells ≡ map (λ (i : ArrayInfo). i.length) infos
+
+-- ---- the whole
 
 -- `done N`
 abbrev pub done_line : ℕ → List ℕ
 done_line n = codes "done " ++ (decimal n ++ (10 ∷ []))
 
--- the report of an outcome: the packets, the registers, and the number of arrivals
-abbrev pub outcome_text : Names → Outcome → ℕ → List ℕ
-outcome_text names outcome n = packet_lines names.fields 0 outcome.packets ++ (register_lines names.cells outcome.cells ++ done_line n)
+-- the packets, the registers, and the number of arrivals
+abbrev pub run_text : List (List ℕ) → List ArrayInfo → List (List ℤ) → List (List ℤ) → ℕ → List ℕ
+run_text fields infos packets cells n = packet_lines fields 0 packets ++ (register_lines infos cells ++ done_line n)
 
 -- the report of the sequential run over these headers
 abbrev pub report : Program → List (List ℤ) → List ℕ
-report p headers = outcome_text (names_of p) (one p headers) (length headers)
-
--- the same text, from the packets as rows of words
-abbrev pub words_text : List (List ℕ) → List (List ℕ) → List (List ℤ) → List ℤ → ℕ → List ℕ
-words_text fields cells packets values n = packet_lines fields 0 packets ++ (register_lines cells values ++ done_line n)
+report p headers = run_text p.packet.fields (infos_of p) (one p headers).packets (one p headers).cells (length headers)

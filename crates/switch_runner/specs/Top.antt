@@ -2,23 +2,12 @@
 use Rattle.std.specs.Prelude.{◌≡◌, ◌≢◌, Bool, true, false, ℕ, ℤ, List, [], ◌∷◌, length, Option, IfSome}
 use Rattle.capture_io.specs.declared.fault.CaptureFault.{CaptureFault}
 use Rattle.capture_io.specs.declared.fault.CaptureFault.TheVariants as capture
-use Rattle.domino_tree.specs.declared.program.Program.{Program}
-use Rattle.domino_tree.specs.Meaning.{State, names_of, exec}
-use Rattle.switch_runner.specs.declared.resolve.Resolved.{Resolved}
 use Rattle.switch_runner.specs.declared.outside.StoreFault.{StoreFault}
 use Rattle.switch_runner.specs.declared.outside.StoreFault.TheVariants as store
-use Rattle.switch_runner.specs.declared.status.ProgramFault.TheVariants as program
 use Rattle.switch_runner.specs.declared.status.Status.{Status}
 use Rattle.switch_runner.specs.declared.status.Status.TheVariants as status
-use Rattle.switch_runner.specs.Causes.{IsNoProgram, IsNoCapture}
-use Rattle.switch_runner.specs.Numbered.{run_body}
+use Rattle.switch_runner.specs.Causes.{lacks_memory, IsNoProgram, IsNoCapture}
 use Rattle.switch_runner.specs.Outside.{Rose, TookFront, gained}
-
--- the resolved program has this program's names and meaning
-pub record Stands (r : Resolved) (p : Program) : Type 0 where
-  pub fields : r.fields ≡ (names_of p).fields
-  pub cells : r.cells.items ≡ (names_of p).cells
-  pub body : (s : State) → run_body r.body.items s ≡ exec (names_of p) p.function.body s
 
 -- each packet has so many words
 abbrev pub AreWide : ℕ → List (List ℤ) → Type 0
@@ -30,8 +19,7 @@ abbrev pub NoSource : Option (List ℕ) → ℕ → ℕ → Status → Type 0
 NoSource text before now status.Done = ⊥
 NoSource text before now status.Help = ⊥
 NoSource text before now status.Words = ⊥
-NoSource text before now (status.Program program.NotYet) = IfSome text IsNoProgram
-NoSource text before now (status.Program program.NoMemory) = ⊥
+NoSource text before now (status.Program f) = (lacks_memory f ≡ false) × IfSome text (IsNoProgram f)
 NoSource text before now (status.Capture f) = ⊥
 NoSource text before now status.ReadFault = Rose before now
 NoSource text before now status.WriteFault = ⊥

@@ -6,19 +6,14 @@
 #![tactic(auto)]
 
 mod block;
-mod checks;
 mod command_line;
 mod edge;
-mod evaluate;
 mod fabric;
 mod help;
 mod line;
 mod memory;
-mod names;
-mod numbered;
 mod outside;
 mod report;
-mod resolve;
 mod run;
 mod status;
 mod top;

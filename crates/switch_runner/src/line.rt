@@ -1,8 +1,9 @@
 //! What stands on standard error when a call ends.
 ghost use Rattle.std.specs.Prelude.{◌≡◌, ◌<◌, ◌/◌, ◌%◌, [], decimal};
+ghost use Rattle.std.specs.Fmt.{signed_decimal};
 ghost use Rattle.std.specs.List.{flat_map};
 ghost use Rattle.switch_runner.specs.Causes.{line};
-ghost use Rattle.switch_runner.specs.RefusalLine.{hex_digit, hex_word, with_one, with_two, refusal_line};
+ghost use Rattle.switch_runner.specs.RefusalLine.{hex_digit, hex_word, with_one, with_two, with_name, with_pair, what_word, text_line, check_line, program_line, refusal_line};
 ghost use Rattle.switch_runner.specs.Writing.{Puts, at};
 
 use crate::help::help_text;
@@ -10,7 +11,10 @@ use crate::outside::{Failed, Sink};
 use crate::status::{ProgramFault, Status};
 use crate::transfer::write_all;
 use capture_io::CaptureFault;
+use domino_check::{CheckFault, What};
+use domino_syntax::TextFault;
 use itoa::Buffer;
+use mp5_words::Name;
 
 // Writes a text.
 fn write_text<K: Sink>(err: &mut K, text: &[u8]) -> Result<(), Failed>
@@ -88,6 +92,91 @@ fn hex_word(word: u32) -> [u8; 8]
     ]
 }
 
+// Writes the line of a text that isn't read.
+fn write_text_refusal<K: Sink>(err: &mut K, fault: &TextFault) -> Result<(), Failed>
+    ensures { Puts (text_line fault.now) (at [] (K.taken err.old) (K.faults err.old)) (at [] (K.taken err.new) (K.faults err.new)) result }
+{
+    match fault {
+        TextFault::TooLong(n) => write_one(err, b"mp5: program 1 ", *n),
+        TextFault::BadToken(at) => write_one(err, b"mp5: program 2 ", u64::from(*at)),
+        TextFault::TooDeep(n) => write_one(err, b"mp5: program 4 ", u64::from(*n)),
+        TextFault::Syntax(n) => write_one(err, b"mp5: program 3 ", u64::from(*n)),
+        TextFault::NoMemory => write_text(err, b"mp5: no memory\n"),
+    }
+}
+
+// Writes a line of a text and a name.
+fn write_name<K: Sink>(err: &mut K, text: &[u8], name: &Name) -> Result<(), Failed>
+    ensures { Puts (with_name text.now name.now) (at [] (K.taken err.old) (K.faults err.old)) (at [] (K.taken err.new) (K.faults err.new)) result }
+{
+    write_pieces(err, &[text, name.bytes(), b"\n"])
+}
+
+// Writes a line of a text, and a word and digits with a space between them.
+fn write_pair<K: Sink>(err: &mut K, text: &[u8], word: &[u8], digits: &[u8]) -> Result<(), Failed>
+    ensures { Puts (with_pair text.now word.now digits.now) (at [] (K.taken err.old) (K.faults err.old)) (at [] (K.taken err.new) (K.faults err.new)) result }
+{
+    write_pieces(err, &[text, word, b" ", digits, b"\n"])
+}
+
+// Writes the line of a length that is refused.
+fn write_length<K: Sink>(err: &mut K, text: &[u8], name: &Name, length: i32) -> Result<(), Failed>
+    ensures { Puts (with_pair text.now name.now (signed_decimal length)) (at [] (K.taken err.old) (K.faults err.old)) (at [] (K.taken err.new) (K.faults err.new)) result }
+{
+    let mut digits = Buffer::new();
+    write_pair(err, text, name.bytes(), digits.format(length).as_bytes())
+}
+
+// What there are too many of, as a word.
+fn what_word(what: What) -> &'static [u8]
+    ensures { result.now ≡ what_word what }
+{
+    match what {
+        What::Defines => b"defines",
+        What::Fields => b"fields",
+        What::Arrays => b"arrays",
+        What::Cells => b"cells",
+    }
+}
+
+// Writes the line of a count that is past its limit.
+fn write_count<K: Sink>(err: &mut K, text: &[u8], what: What, n: u64) -> Result<(), Failed>
+    ensures { Puts (with_pair text.now (what_word what) (decimal n)) (at [] (K.taken err.old) (K.faults err.old)) (at [] (K.taken err.new) (K.faults err.new)) result }
+{
+    let mut digits = Buffer::new();
+    write_pair(err, text, what_word(what), digits.format(n).as_bytes())
+}
+
+// Writes the line of a program that a check refuses.
+fn write_check_refusal<K: Sink>(err: &mut K, fault: &CheckFault) -> Result<(), Failed>
+    ensures { Puts (check_line fault.now) (at [] (K.taken err.old) (K.faults err.old)) (at [] (K.taken err.new) (K.faults err.new)) result }
+{
+    match fault {
+        CheckFault::Twice(name) => write_name(err, b"mp5: program 5 ", name),
+        CheckFault::Unknown(name) => write_name(err, b"mp5: program 6 ", name),
+        CheckFault::WrongKind(name) => write_name(err, b"mp5: program 7 ", name),
+        CheckFault::Arity(name) => write_name(err, b"mp5: program 8 ", name),
+        CheckFault::BadLength(name, length) => {
+            write_length(err, b"mp5: program 9 ", name, *length)
+        }
+        CheckFault::TooMany(what, n) => write_count(err, b"mp5: program 10 ", *what, *n),
+        CheckFault::IndexDiffers(name) => write_name(err, b"mp5: program 11 ", name),
+        CheckFault::IndexMoves(name) => write_name(err, b"mp5: program 12 ", name),
+        CheckFault::NoMemory => write_text(err, b"mp5: no memory\n"),
+    }
+}
+
+// Writes the line of a refused program.
+fn write_program_refusal<K: Sink>(err: &mut K, fault: &ProgramFault) -> Result<(), Failed>
+    ensures { Puts (program_line fault.now) (at [] (K.taken err.old) (K.faults err.old)) (at [] (K.taken err.new) (K.faults err.new)) result }
+{
+    match fault {
+        ProgramFault::Text(fault) => write_text_refusal(err, fault),
+        ProgramFault::Check(fault) => write_check_refusal(err, fault),
+        ProgramFault::NoMemory => write_text(err, b"mp5: no memory\n"),
+    }
+}
+
 // Writes the line of a refused capture.
 fn write_refusal<K: Sink>(err: &mut K, fault: &CaptureFault) -> Result<(), Failed>
     ensures { Puts (refusal_line fault.now) (at [] (K.taken err.old) (K.faults err.old)) (at [] (K.taken err.new) (K.faults err.new)) result }
@@ -124,12 +213,10 @@ pub(crate) fn write_line<K: Sink>(err: &mut K, status: &Status) -> Result<(), Fa
         Status::Done => write_text(err, b""),
         Status::Help => write_text(err, help_text().as_bytes()),
         Status::Words => write_text(err, b"mp5: words\n"),
-        Status::Program(ProgramFault::NotYet) => write_text(err, b"mp5: program 40\n"),
+        Status::Program(fault) => write_program_refusal(err, fault),
         Status::Capture(fault) => write_refusal(err, fault),
         Status::ReadFault => write_text(err, b"mp5: read fault\n"),
         Status::WriteFault => write_text(err, b"mp5: write fault\n"),
-        Status::Program(ProgramFault::NoMemory) | Status::NoMemory => {
-            write_text(err, b"mp5: no memory\n")
-        }
+        Status::NoMemory => write_text(err, b"mp5: no memory\n"),
     }
 }

@@ -1,15 +1,18 @@
 //! The report of a run, written through a block.
-ghost use Rattle.std.specs.Prelude.{◌≡◌, ◌*◌, ◌++◌, ◌∷◌, [], ℕ, length, codes, decimal, OnOk, OnErr};
+ghost use Rattle.std.specs.Prelude.{◌≡◌, ◌<◌, ◌≤◌, ◌*◌, ◌++◌, ◌∷◌, [], ℕ, length, codes, decimal, OnOk, OnErr};
 ghost use Rattle.std.specs.Fmt.{signed_decimal};
 ghost use Rattle.std.specs.List.{flat_map};
 ghost use Rattle.capture_io.specs.Rows.{rows};
+ghost use Rattle.domino_tree.specs.Value.{cells_at};
 ghost use Rattle.switch_runner.specs.Outside.{TookFront, gained};
 ghost use Rattle.switch_runner.specs.Faults.{WriteCause};
 ghost use Rattle.switch_runner.specs.Writing.{Puts, at};
-ghost use Rattle.switch_runner.specs.Report.{field_text, fields_text, packet_line, packet_lines, register_line, register_lines, done_line, words_text};
+ghost use Rattle.switch_runner.specs.Report.{field_text, fields_text, packet_line, packet_lines, register_line, cell_line, cell_lines, register_lines, HasCells, done_line, run_text};
 
 use crate::block::Block;
 use crate::outside::{Failed, Sink};
+use domino_check::ArrayInfo;
+use domino_eval::Bench;
 use itoa::Buffer;
 use mp5_words::{FieldNames, Name};
 
@@ -104,7 +107,7 @@ fn put_packets<K: Sink>(
     Ok(())
 }
 
-// The line of a register, where it isn't 0.
+// The line of a register.
 fn put_register<K: Sink>(
     block: &mut Block,
     out: &mut K,
@@ -114,9 +117,6 @@ fn put_register<K: Sink>(
     ensures { Puts (register_line name.now value)
         (at block.old (K.taken out.old) (K.faults out.old)) (at block.new (K.taken out.new) (K.faults out.new)) result }
 {
-    if value == 0 {
-        return Ok(());
-    }
     let mut digits = Buffer::new();
     put_all(
         block,
@@ -131,20 +131,90 @@ fn put_register<K: Sink>(
     )
 }
 
-// The lines of the registers in order of declaration.
-fn put_registers<K: Sink>(
+// The line of a cell of a register array.
+fn put_element<K: Sink>(
     block: &mut Block,
     out: &mut K,
-    names: &[Name],
-    values: &[i32],
+    name: &Name,
+    i: u32,
+    value: i32,
 ) -> Result<(), Failed>
-    requires { length values.now ≡ length names.now }
-    ensures { Puts (register_lines names.now values.now)
+    ensures { Puts (register_line (name.now ++ (91 ∷ (decimal i ++ (93 ∷ [])))) value)
         (at block.old (K.taken out.old) (K.faults out.old)) (at block.new (K.taken out.new) (K.faults out.new)) result }
 {
-    for (i, name) in names.iter().enumerate() {
-        let value = values[i];
-        match put_register(block, out, name, value) {
+    let mut place = Buffer::new();
+    let mut digits = Buffer::new();
+    put_all(
+        block,
+        out,
+        &[
+            b"reg ",
+            name.bytes(),
+            b"[",
+            place.format(i).as_bytes(),
+            b"]=",
+            digits.format(value).as_bytes(),
+            b"\n",
+        ],
+    )
+}
+
+// The line of a cell, where it differs from its start value.
+fn put_cell<K: Sink>(
+    block: &mut Block,
+    out: &mut K,
+    info: &ArrayInfo,
+    i: u32,
+    value: i32,
+) -> Result<(), Failed>
+    ensures { Puts (cell_line info.now i value)
+        (at block.old (K.taken out.old) (K.faults out.old)) (at block.new (K.taken out.new) (K.faults out.new)) result }
+{
+    if value == info.start {
+        Ok(())
+    } else if info.scalar {
+        put_register(block, out, &info.name, value)
+    } else {
+        put_element(block, out, &info.name, i, value)
+    }
+}
+
+// The lines of an array's cells in order.
+fn put_cells<K: Sink>(
+    block: &mut Block,
+    out: &mut K,
+    info: &ArrayInfo,
+    bench: &Bench<'_>,
+    array: u32,
+) -> Result<(), Failed>
+    requires array { array < length bench.now.cells }
+    requires cells { length (cells_at bench.now.cells array) ≡ info.now.length }
+    ensures { Puts (cell_lines info.now 0 (cells_at bench.now.cells array))
+        (at block.old (K.taken out.old) (K.faults out.old)) (at block.new (K.taken out.new) (K.faults out.new)) result }
+{
+    for i in 0..info.length {
+        match put_cell(block, out, info, i, bench.cell(array, i)) {
+            Ok(()) => {}
+            Err(failed) => return Err(failed),
+        }
+    }
+    Ok(())
+}
+
+// The lines of the arrays in order of declaration.
+fn put_arrays<K: Sink>(
+    block: &mut Block,
+    out: &mut K,
+    infos: &[ArrayInfo],
+    bench: &Bench<'_>,
+) -> Result<(), Failed>
+    requires few { length infos.now ≤ 16 }
+    requires cells { HasCells infos.now bench.now.cells }
+    ensures { Puts (register_lines infos.now bench.now.cells)
+        (at block.old (K.taken out.old) (K.faults out.old)) (at block.new (K.taken out.new) (K.faults out.new)) result }
+{
+    for (array, info) in infos.iter().enumerate() {
+        match put_cells(block, out, info, bench, array as u32) {
             Ok(()) => {}
             Err(failed) => return Err(failed),
         }
@@ -172,40 +242,43 @@ fn put_report<K: Sink>(
     count: u32,
     fields: &FieldNames,
     packets: &[i32],
-    cells: &[Name],
-    values: &[i32],
+    infos: &[ArrayInfo],
+    bench: &Bench<'_>,
 ) -> Result<(), Failed>
     requires packets { length packets.now ≡ count * length fields.now }
-    requires values { length values.now ≡ length cells.now }
-    ensures { Puts (words_text fields.now cells.now (rows count (length fields.now) packets.now) values.now count)
+    requires few { length infos.now ≤ 16 }
+    requires cells { HasCells infos.now bench.now.cells }
+    ensures { Puts (run_text fields.now infos.now (rows count (length fields.now) packets.now) bench.now.cells count)
         (at block.old (K.taken out.old) (K.faults out.old)) (at block.new (K.taken out.new) (K.faults out.new)) result }
 {
     put_packets(block, out, count, fields, packets)?;
-    put_registers(block, out, cells, values)?;
+    put_arrays(block, out, infos, bench)?;
     put_done(block, out, count)
 }
 
-/// Writes the report of a run: the packets, which stand one after another in one list of words, the
-/// registers and the number of arrivals. It goes out in blocks, and takes no memory.
+/// Writes the report of a run: the packets, which stand one after another in one list of words, the cells
+/// that differ from their start values, and the number of arrivals. It goes out in blocks, and takes no
+/// memory.
 pub(crate) fn write_report<K: Sink>(
     block: Block,
     out: &mut K,
     count: u32,
     fields: &FieldNames,
     packets: &[i32],
-    cells: &[Name],
-    values: &[i32],
+    infos: &[ArrayInfo],
+    bench: &Bench<'_>,
 ) -> Result<(), Failed>
     requires empty { block ≡ [] }
     requires packets { length packets.now ≡ count * length fields.now }
-    requires values { length values.now ≡ length cells.now }
+    requires few { length infos.now ≤ 16 }
+    requires cells { HasCells infos.now bench.now.cells }
     ensures ok { OnOk result
-        (K.taken out.new ≡ gained (words_text fields.now cells.now (rows count (length fields.now) packets.now) values.now count) (K.taken out.old)) }
+        (K.taken out.new ≡ gained (run_text fields.now infos.now (rows count (length fields.now) packets.now) bench.now.cells count) (K.taken out.old)) }
     ensures err { OnErr result
-        (TookFront (K.taken out.old) (K.taken out.new) (words_text fields.now cells.now (rows count (length fields.now) packets.now) values.now count)) }
+        (TookFront (K.taken out.old) (K.taken out.new) (run_text fields.now infos.now (rows count (length fields.now) packets.now) bench.now.cells count)) }
     ensures cause { WriteCause (K.faults out.old) (K.faults out.new) result }
 {
     let mut block = block;
-    put_report(&mut block, out, count, fields, packets, cells, values)?;
+    put_report(&mut block, out, count, fields, packets, infos, bench)?;
     block.flush(out)
 }

@@ -1,35 +1,22 @@
 ghost use Rattle.std.specs.Prelude.{◌≡◌};
-ghost use Rattle.switch_runner.specs.declared.status.ProgramFault.TheVariants.{NoMemory};
 
 use capture_io::CaptureFault;
-use std::alloc::{AllocError, AllocFailed};
+use domino_check::CheckFault;
+use domino_syntax::TextFault;
 use thiserror::Error;
 
 /// Why a program isn't accepted.
 #[derive(Debug, Drop, Error)]
 pub enum ProgramFault {
-    /// The text isn't a program that is accepted yet.
-    #[error("the text is no program that is accepted")]
-    NotYet,
+    /// The text isn't a program of the grammar.
+    #[error("{0}")]
+    Text(TextFault),
+    /// The program doesn't pass the checks.
+    #[error("{0}")]
+    Check(CheckFault),
     /// Memory ran out.
     #[error("out of memory")]
     NoMemory,
-}
-
-impl From<AllocError> for ProgramFault {
-    ghost from_gives = { λ _ e. e ≡ NoMemory };
-
-    fn from(_e: AllocError) -> ProgramFault {
-        ProgramFault::NoMemory
-    }
-}
-
-impl<T: Drop> From<AllocFailed<T>> for ProgramFault {
-    ghost from_gives = { λ _ e. e ≡ NoMemory };
-
-    fn from(_e: AllocFailed<T>) -> ProgramFault {
-        ProgramFault::NoMemory
-    }
 }
 
 /// How a call of the program ends.

@@ -1,14 +1,13 @@
 //! The top call: the words, the program, the capture, the run, the report.
-ghost use Rattle.std.specs.Prelude.{◌≡◌, ◌≢◌, ◌≤◌, ◌⊎◌, ◌↔◌, ℕ, List, length, map, take, string_bytes, IfOk, IfErr, IfSome, IfNone, IsErrOf, Some, None};
+ghost use Rattle.std.specs.Prelude.{◌≡◌, false, ◌≢◌, ◌≤◌, ◌⊎◌, ◌↔◌, ℕ, List, length, map, take, string_bytes, IfOk, IfErr, IfSome, IfNone, IsErrOf, Some, None};
 ghost use Rattle.capture_io.specs.ClassicCapture.{Record, IsCapture};
 ghost use Rattle.capture_io.specs.Header.{headers};
 ghost use Rattle.domino_tree.specs.declared.program.Program.{Program};
-ghost use Rattle.switch_runner.specs.Causes.{IsNoProgram, IsAboutProgram, Because, ComesWhere, ProgramAlways, CaptureAlways, IsComplete, saw, line};
+ghost use Rattle.switch_runner.specs.Causes.{lacks_memory, IsAccepted, IsUnaccepted, IsAboutProgram, Because, ComesWhere, ProgramAlways, CaptureAlways, IsComplete, saw, line};
 ghost use Rattle.switch_runner.specs.CommandLine as command;
 ghost use Rattle.switch_runner.specs.Outside.{Rose, TookFront, gained};
 ghost use Rattle.switch_runner.specs.Report.{report};
-ghost use Rattle.switch_runner.specs.ThinProgram.{IsAccepted};
-ghost use Rattle.switch_runner.specs.Top.{Stands, AreWide, NoSource, NoHeaders, Ends, is_no_memory, read_status};
+ghost use Rattle.switch_runner.specs.Top.{AreWide, NoSource, NoHeaders, Ends, is_no_memory, read_status};
 
 use crate::block::Block;
 use crate::command_line::asked;
@@ -16,11 +15,11 @@ use crate::fabric::Fabric;
 use crate::line::write_line;
 use crate::outside::{Failed, Sink, Store, StoreFault};
 use crate::report::write_report;
-use crate::resolve::{Resolved, resolve};
 use crate::run::run_one;
 use crate::status::{ProgramFault, Status};
 use crate::transfer::read_whole;
 use capture_io::{Capture, CaptureFault, read_capture};
+use domino_check::{CheckFault, Checked, check};
 use domino_syntax::{TextFault, read_program};
 use mp5_words::FieldNames;
 use std::alloc::Global;
@@ -111,23 +110,23 @@ fn run_files<S: Store, K: Sink>(
     ensures unread { IsAboutProgram result → (name : List ℕ) → name ≢ program.now → S.faults store.new name ≡ S.faults store.old name }
     ensures others { (name : List ℕ) → name ≢ program.now → name ≢ capture.now → S.faults store.new name ≡ S.faults store.old name }
 {
-    let resolved = match read_source(alloc, store, program) {
-        Ok(resolved) => resolved,
+    let checked = match read_source(alloc, store, program) {
+        Ok(checked) => checked,
         Err(status) => return status,
     };
-    let headers = match read_headers(alloc, store, capture, &resolved.fields) {
+    let headers = match read_headers(alloc, store, capture, checked.field_names()) {
         Ok(headers) => headers,
         Err(status) => return status,
     };
-    run_and_report(alloc, &resolved, &headers, out)
+    run_and_report(alloc, &checked, &headers, out)
 }
 
 /// Reads a program.
-fn read_source<S: Store>(alloc: Global, store: &mut S, name: &str) -> Result<Resolved, Status>
+fn read_source<S: Store>(alloc: Global, store: &mut S, name: &str) -> Result<Checked, Status>
     ensures keeps { (other : List ℕ) → S.told store.new other ≡ S.told store.old other }
     ensures others { (other : List ℕ) → other ≢ name.now → S.faults store.new other ≡ S.faults store.old other }
     ensures later { S.faults store.old name.now ≤ S.faults store.new name.now }
-    ensures read { IfOk result (λ r. (p : Program) × Stands r p × IfSome (S.told store.old name.now) (λ text. IsAccepted text p)) }
+    ensures read { IfOk result (λ program. IfSome (S.told store.old name.now) (λ text. IsAccepted text program)) }
     ensures refused { IfErr result (NoSource (S.told store.old name.now) (S.faults store.old name.now) (S.faults store.new name.now)) }
 {
     let text = match read_whole(alloc, store, name, MAX_TEXT) {
@@ -135,22 +134,37 @@ fn read_source<S: Store>(alloc: Global, store: &mut S, name: &str) -> Result<Res
         Err(fault) => return Err(read_fault(fault)),
     };
     match accept(alloc, &text) {
-        Ok(resolved) => Ok(resolved),
-        Err(ProgramFault::NotYet) => Err(Status::Program(ProgramFault::NotYet)),
-        Err(ProgramFault::NoMemory) => Err(Status::NoMemory),
+        Ok(checked) => Ok(checked),
+        Err(fault) if lacks_memory(&fault) => Err(Status::NoMemory),
+        Err(fault) => Err(Status::Program(fault)),
     }
 }
 
 /// The program that a text is accepted as.
-fn accept(alloc: Global, text: &[u8]) -> Result<Resolved, ProgramFault>
-    ensures read { IfOk result (λ r. (p : Program) × IsAccepted text.now p × Stands r p) }
-    ensures not_yet { IsErrOf result ProgramFault.NotYet → IsNoProgram text.now }
+fn accept(alloc: Global, text: &[u8]) -> Result<Checked, ProgramFault>
+    ensures read { IfOk result (λ program. IsAccepted text.now program) }
+    ensures refused { IfErr result (λ f. lacks_memory f ≡ false → IsUnaccepted f text.now) }
 {
-    match read_program(alloc, text) {
-        Ok(program) => resolve(alloc, &program),
-        Err(TextFault::NotYet) => Err(ProgramFault::NotYet),
-        Err(TextFault::NoMemory) => Err(ProgramFault::NoMemory),
+    let program = match read_program(alloc, text) {
+        Ok(program) => program,
+        Err(fault) => return Err(ProgramFault::Text(fault)),
+    };
+    match check(alloc, program) {
+        Ok(checked) => Ok(checked),
+        Err(fault) => Err(ProgramFault::Check(fault)),
     }
+}
+
+/// Whether a program isn't accepted for want of memory alone.
+fn lacks_memory(fault: &ProgramFault) -> bool
+    ensures { result ≡ lacks_memory fault.now }
+{
+    matches!(
+        fault,
+        ProgramFault::NoMemory
+            | ProgramFault::Text(TextFault::NoMemory)
+            | ProgramFault::Check(CheckFault::NoMemory)
+    )
 }
 
 /// Reads a capture.
@@ -197,30 +211,27 @@ fn read_fault(fault: StoreFault) -> Status
 /// Runs the transaction on each header in order, and then writes the report.
 fn run_and_report<K: Sink>(
     alloc: Global,
-    resolved: &Resolved,
+    checked: &Checked,
     headers: &Capture,
     out: &mut K,
 ) -> Status
-    requires stands { (p : Program) × Stands resolved.now p }
-    requires wide { AreWide (length resolved.now.fields) headers.now }
-    ensures { (p : Program) → Stands resolved.now p
-        → Ends (report p headers.now) (K.taken out.old) (K.taken out.new) (K.faults out.old) (K.faults out.new) result }
+    requires { AreWide (length checked.now.packet.fields) headers.now }
+    ensures { Ends (report checked.now headers.now) (K.taken out.old) (K.taken out.new) (K.faults out.old) (K.faults out.new) result }
 {
-    let Ok(end) = run_one(alloc, resolved, headers) else {
+    let Ok(end) = run_one(alloc, checked, headers) else {
         return Status::NoMemory;
     };
     let Ok(block) = Block::new(alloc) else {
         return Status::NoMemory;
     };
-    let count = headers.count();
     match write_report(
         block,
         out,
-        count,
-        &resolved.fields,
+        headers.count(),
+        checked.field_names(),
         &end.packets,
-        &resolved.cells,
-        &end.cells,
+        checked.arrays(),
+        &end.bench,
     ) {
         Ok(()) => Status::Done,
         Err(Failed) => Status::WriteFault,

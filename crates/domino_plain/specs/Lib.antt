@@ -1,2 +1,0 @@
-pub use Rattle.domino_tree.specs.Meaning
-pub mod Parts

@@ -1,0 +1,22 @@
+use Rattle.std.proofs.Common.{arith}
+use Rattle.switch_runner.proofs.ReportLemmas.{arrays_from, cells_of_array, count_of_arrays}
+use Rattle.switch_runner.proofs.WritingLemmas.{goes_on, goes_broken}
+use Rattle.switch_runner.proofs.report.put_arrays.Goals as goal
+
+pub put_cells-requires-clause-array : goal.put_cells-requires-clause-array
+put_cells-requires-clause-array g c = omega (arith, count_of_arrays c.args.infos.now c.args.bench.now.cells c.requires.cells, c.loop-array-test.true)
+
+pub put_cells-requires-clause-cells : goal.put_cells-requires-clause-cells
+put_cells-requires-clause-cells g c = cells_of_array c.args.infos.now c.args.bench.now.cells c.loop-array.array _ c.loop-array-test.true c.index-infos-array.is c.requires.cells
+
+pub returns-in-Err : goal.returns-in-Err
+returns-in-Err g c =
+    goes_broken _ _ _ _ _ _ _
+    (arrays_from c.args.infos.now c.args.bench.now.cells c.loop-array.array _ c.loop-array-test.true (omega (arith, count_of_arrays c.args.infos.now c.args.bench.now.cells c.requires.cells, c.loop-array-test.true)) c.index-infos-array.is)
+    c.loop-array.invariant c.in-Err.ensures
+
+pub loop-array-preserved : goal.loop-array-preserved
+loop-array-preserved g c =
+    goes_on _ _ _ _ _ _ _
+    (arrays_from c.args.infos.now c.args.bench.now.cells c.loop-array.array _ c.loop-array-test.true (omega (arith, count_of_arrays c.args.infos.now c.args.bench.now.cells c.requires.cells, c.loop-array-test.true)) c.index-infos-array.is)
+    c.loop-array.invariant c.in-Ok.ensures
