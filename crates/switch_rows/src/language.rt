@@ -203,13 +203,23 @@ fn refused_programs(rt: HostRuntime) -> Result<(), Fail> {
         ("", "p.n = hash2(p.n);", "8 hash2"),
         ("int a[0];", "", "9 a 0"),
         ("int a[4294967295];", "", "9 a -1"),
-        ("int a[65536]; int b[65536]; int c[65536]; int d[65536]; int e;", "", "10 cells 262145"),
+        (
+            "int a[65536]; int b[65536]; int c[65536]; int d[65536]; int e;",
+            "",
+            "10 cells 262145",
+        ),
     ] {
         let program = format!(in alloc;
             "{items} struct P {{ int sport; int n; }}; void f(struct P p) {{ {body} }}"
         )?;
         assert_program(&rt, alloc, &program, refusal)?;
     }
-    assert_report(&rt, alloc, &statements(alloc, 1024)?, &[(0, 0, 0)], "pkt 0 n=0\ndone 1\n")?;
+    assert_report(
+        &rt,
+        alloc,
+        &statements(alloc, 1024)?,
+        &[(0, 0, 0)],
+        "pkt 0 n=0\ndone 1\n",
+    )?;
     Ok(())
 }

@@ -70,8 +70,8 @@ module _ (names : Names) where
       (λ t x s. subst (λ (r : State). Same r.store s.store) (sym (executed.step-Set names t x s)) (set_keeps t x s))
       (λ arms held s. subst (λ (r : State). Same r.store s.store) (sym (executed.step-If names arms s)) (chain_keeps arms held None (λ r. (refl, refl)) s))
       (λ arms body held inside s.
-          subst (λ (r : State). Same r.store s.store) (sym (executed.step-Else names arms body s))
-          (chain_keeps arms held (Some (map (step names) body)) (block_keeps body inside) s))
+      subst (λ (r : State). Same r.store s.store) (sym (executed.step-Else names arms body s))
+      (chain_keeps arms held (Some (map (step names) body)) (block_keeps body inside) s))
       (λ cond body inside s. subst (λ (c : Choice). Same (c.block s).store s.store) (sym (executed.choice-Arm names cond body)) (block_keeps body inside s))
 
   all_keep : (body : List Stmt) → Each KeepsStep body
