@@ -1,14 +1,12 @@
 -- The checks of parts of a program, read at the program.
-use Rattle.std.proofs.Common.{◌≡◌, ◌≢◌, ℕ, List, ◌++◌, Option, Bor, inl, inr, refl, sym, ap, subst, ◌∙◌}
+use Rattle.std.proofs.Common.{◌≡◌, ℕ, List, ◌++◌, Option, Bor, ap, subst, ◌∙◌}
 use Rattle.std.specs.HashMap.{HashMap}
 use Rattle.domino_tree.specs.declared.program.Program.{Program}
-use Rattle.domino_check.specs.declared.fault.CheckFault.{CheckFault}
 use Rattle.domino_check.specs.declared.role.Kind.{Kind}
 use Rattle.domino_check.specs.declared.role.Class.{Class}
-use Rattle.domino_check.specs.First.{FirstFault, NoFault}
 use Rattle.domino_check.specs.Uses.{Use, uses_of}
 use Rattle.domino_check.specs.Declarations.{Declaration, kind_in, hash_declarations, declarations}
-use Rattle.domino_check.specs.Checks.{TwiceAt, UnknownAt, WrongKindAt, ArityAt, kinds_in, NoTwice, FirstTwice, NoUnknown, FirstUnknown, NoWrongKind, FirstWrongKind, NoArity, FirstArity}
+use Rattle.domino_check.specs.Checks.{kinds_in}
 use Rattle.domino_check.specs.Tables.{kind_at, Holds}
 
 -- the table of a program's declarations has the kinds of its names

@@ -12,22 +12,18 @@ use Rattle.domino_tree.specs.declared.program.Arm.{Arm, fold-roll-Arm}
 use Rattle.domino_tree.specs.declared.program.Stmt.TheOpen as O
 use Rattle.domino_tree.specs.declared.program.Stmt.TheVariants as s
 use Rattle.domino_tree.specs.declared.program.Program.{Program}
-use Rattle.domino_tree.specs.Value.{Names, names_of, number_of, array_number}
+use Rattle.domino_tree.specs.Value.{names_of, number_of, array_number}
 use Rattle.domino_tree.proofs.ExprLemmas.{Each, induct}
 use Rattle.domino_tree.proofs.StmtLemmas as statements
-use Rattle.domino_check.specs.declared.fault.CheckFault.{CheckFault}
-use Rattle.domino_check.specs.declared.fault.CheckFault.TheVariants as fault
-use Rattle.domino_check.specs.declared.role.Role.{Role}
 use Rattle.domino_check.specs.declared.role.Role.TheVariants as role
 use Rattle.domino_check.specs.declared.role.Kind.{Kind}
 use Rattle.domino_check.specs.declared.role.Kind.TheVariants as kind
-use Rattle.domino_check.specs.declared.role.Class.{Class}
 use Rattle.domino_check.specs.declared.role.Class.TheVariants as class
 use Rattle.domino_check.specs.First.{NoFault}
-use Rattle.domino_check.specs.Uses.{Use, one_use, field_uses, joined, using, expr_uses, target_uses, stmt_using, arm_using, stmt_uses, arm_uses, item_uses, uses_of}
+use Rattle.domino_check.specs.Uses.{Use, one_use, joined, using, expr_uses, target_uses, stmt_using, arm_using, stmt_uses, arm_uses, item_uses, uses_of}
 use Rattle.domino_check.specs.Checks.{kinds_in, kind_for, takes, is_misused, UnknownAt, WrongKindAt, NoUnknown, NoWrongKind}
 use Rattle.domino_check.specs.declared.numbering.Access.{Access}
-use Rattle.domino_check.specs.Numbering.{Numbered, numbered_word, in_numbers, accesses_in, access_at, target_accesses, stmt_accesses, arm_accesses, in_turn, block_accesses, accesses}
+use Rattle.domino_check.specs.Numbering.{Numbered, numbered_word, in_numbers, accesses_in, target_accesses, stmt_accesses, arm_accesses, in_turn, block_accesses, accesses}
 use Rattle.domino_check.specs.Indexes.{AreBelow}
 use Rattle.domino_check.proofs.NumberingLemmas.{in_numbers-Number, in_numbers-Word, in_numbers-Field, in_numbers-Cell, in_numbers-One, in_numbers-Two, in_numbers-Pick, in_numbers-Call, in_numbers-Group, stmt_accesses-Set, stmt_accesses-If, stmt_accesses-Else, arm_accesses-Arm}
 use Rattle.domino_check.proofs.DeclaredLemmas.{defined_number, register_number}

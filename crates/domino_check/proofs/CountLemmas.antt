@@ -1,10 +1,10 @@
 -- The counts of a program, one after another.
-use Rattle.std.proofs.Common.{◌≡◌, ℕ, ◌+◌, ◌<◌, ◌≤◌, Bool, true, false, List, [], ◌∷◌, ◌++◌, length, get_or, take, map, flat_map, sum, nat_lt, IsTrue, refl, sym, ap, subst, ◌∙◌, true≢false, append_assoc, length-append, arith}
+use Rattle.std.proofs.Common.{◌≡◌, ℕ, ◌+◌, ◌<◌, false, List, [], ◌∷◌, ◌++◌, length, get_or, take, map, flat_map, nat_lt, IsTrue, sym, ap, ◌∙◌, true≢false, append_assoc, length-append}
 use Rattle.std.proofs.lemmas.List.{flat_map_more, take_more, map-append, length-map}
 use Rattle.std.proofs.lemmas.Grind.{flat_map-append}
 use Rattle.domino_tree.specs.declared.program.Item.{Item}
 use Rattle.domino_tree.specs.declared.program.Program.{Program}
-use Rattle.domino_tree.specs.Value.{Defined, Array, Names, item_define, item_array, names_of}
+use Rattle.domino_tree.specs.Value.{Array, Names, item_define, item_array, names_of}
 use Rattle.domino_check.specs.declared.fault.What.{What}
 use Rattle.domino_check.specs.declared.fault.What.TheVariants as what
 use Rattle.domino_check.specs.declared.fault.CheckFault.{CheckFault}

@@ -7,7 +7,7 @@ use Rattle.std.proofs.lemmas.Slice.Eq.{bytes_eq-Decides}
 use Rattle.domino_tree.specs.declared.program.Item.{Item}
 use Rattle.domino_tree.specs.declared.program.Item.TheVariants as item
 use Rattle.domino_tree.specs.declared.program.Program.{Program}
-use Rattle.domino_tree.specs.Value.{Defined, Array, Names, item_define, item_array, names_of, number_of, place_of, array_number, length_value, start_value}
+use Rattle.domino_tree.specs.Value.{Defined, Array, item_define, item_array, names_of, number_of, place_of, array_number, length_value, start_value}
 use Rattle.domino_check.specs.declared.role.Kind.{Kind}
 use Rattle.domino_check.specs.declared.role.Kind.TheVariants as kind
 use Rattle.domino_check.specs.declared.role.Class.{Class}

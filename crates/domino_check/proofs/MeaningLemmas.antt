@@ -1,5 +1,5 @@
 -- The meaning of a body in numbers at each form.
-use Rattle.std.proofs.Common.{◌≡◌, ℕ, ℤ, pos, List, [], ◌∷◌, ◌++◌, map, flat_map, None, Some, sym, ap, ◌∙◌}
+use Rattle.std.proofs.Common.{◌≡◌, ℕ, ℤ, List, [], ◌∷◌, ◌++◌, map, flat_map, None, Some, sym, ap, ◌∙◌}
 use Rattle.mp5_words.specs.declared.op.Op1.{Op1}
 use Rattle.mp5_words.specs.declared.op.Op2.{Op2}
 use Rattle.mp5_words.specs.declared.hashing.HashKind.{HashKind}

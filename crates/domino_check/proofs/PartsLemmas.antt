@@ -1,19 +1,16 @@
 -- What a program that passes the checks of names and sizes keeps.
-use Rattle.std.proofs.Common.{◌≡◌, ℕ, suc, ◌≤◌, ◌<◌, ℤ, pos, negsuc, Bool, true, false, ◌||◌, nat_lt, int_lt, if◌then◌else◌, List, [], ◌∷◌, ◌++◌, length, map, flat_map, Option, Some, None, refl, sym, ap, subst, ◌∙◌, true≢false, arith}
+use Rattle.std.proofs.Common.{◌≡◌, ℕ, ◌≤◌, ℤ, pos, negsuc, Bool, true, false, ◌||◌, nat_lt, if◌then◌else◌, List, [], ◌∷◌, ◌++◌, length, map, flat_map, Option, Some, None, refl, sym, ap, subst, ◌∙◌, arith}
 use Rattle.std.proofs.lemmas.Bool.{ltb-false}
-use Rattle.domino_tree.specs.declared.program.Size.{Size}
 use Rattle.domino_tree.specs.declared.program.Item.{Item}
 use Rattle.domino_tree.specs.declared.program.Item.TheVariants as item
 use Rattle.domino_tree.specs.declared.program.Program.{Program}
-use Rattle.domino_tree.specs.Value.{Defined, Names, Array, names_of, natural, size_value, length_value, start_value, item_define}
-use Rattle.domino_check.specs.declared.fault.CheckFault.{CheckFault}
+use Rattle.domino_tree.specs.Value.{Defined, Array, names_of, natural, size_value}
 use Rattle.domino_check.specs.declared.fault.CheckFault.TheVariants as fault
-use Rattle.domino_check.specs.declared.fault.What.{What}
 use Rattle.domino_check.specs.declared.fault.What.TheVariants as what
 use Rattle.domino_check.specs.declared.numbered.ArrayInfo.{ArrayInfo}
 use Rattle.domino_check.specs.declared.scope.Define.{Define}
 use Rattle.domino_check.specs.First.{NoFault}
-use Rattle.domino_check.specs.Checks.{limit, count, counted, bad_of, bad_length, item_name, BadLengthAt, NoBadLength, TooManyAt, NoTooMany}
+use Rattle.domino_check.specs.Checks.{bad_of, BadLengthAt, NoBadLength, NoTooMany}
 use Rattle.domino_check.specs.Infos.{item_info, infos_of, array_of, defined_of, names_from}
 use Rattle.domino_check.specs.Accepted.{AreSized, Keeps}
 use Rattle.std.proofs.lemmas.List.FromFn.{length-map-range_with_len}

@@ -1,5 +1,5 @@
 -- No program is refused by two faults, and none that passes is refused.
-use Rattle.std.proofs.Common.{◌≡◌, ◌≢◌, ℕ, ◌<◌, ◌≤◌, ℤ, Bool, true, false, nat_lt, List, [], ◌∷◌, ◌++◌, Option, Some, None, Result, Ok, Err, OnOk, IfErr, IsErrAnd, ◌⊎◌, inl, inr, refl, sym, ap, subst, ◌∙◌, true≢false, arith}
+use Rattle.std.proofs.Common.{◌≡◌, ◌≢◌, ℕ, ◌≤◌, ℤ, Bool, true, false, nat_lt, List, ◌++◌, Option, Some, None, Result, Ok, Err, OnOk, IfErr, IsErrAnd, inl, inr, refl, sym, ap, ◌∙◌, true≢false, arith}
 use Rattle.std.proofs.lemmas.Bool.{ltb-true, ltb-false}
 use Rattle.std.proofs.lemmas.Result.{IfErr-weaker}
 use Rattle.domino_tree.specs.declared.program.Item.{Item}
@@ -8,7 +8,6 @@ use Rattle.domino_tree.specs.Value.{Defined, Array, names_of}
 use Rattle.domino_check.specs.declared.fault.CheckFault.{CheckFault}
 use Rattle.domino_check.specs.declared.fault.CheckFault.TheVariants as fault
 use Rattle.domino_check.specs.declared.numbered.CheckedExpr.{CheckedExpr}
-use Rattle.domino_check.specs.First.{FirstFault, NoFault}
 use Rattle.domino_check.specs.Uses.{uses_of}
 use Rattle.domino_check.specs.Declarations.{Declaration, declarations}
 use Rattle.domino_check.specs.Checks.{TwiceAt, UnknownAt, WrongKindAt, ArityAt, BadLengthAt, TooManyAt, kinds_in, item_name, counted}

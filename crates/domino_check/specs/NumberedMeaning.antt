@@ -1,12 +1,12 @@
 -- What a body in numbers means, where each array has an index and a length: the value of an expression, and
 -- the execution of statements.
-use Rattle.std.specs.Prelude.{ℕ, ℤ, pos, Bool, List, [], ◌∷◌, ◌++◌, map, flat_map, Option, Some, None, slice_set}
+use Rattle.std.specs.Prelude.{ℕ, ℤ, pos, List, [], ◌∷◌, ◌++◌, map, flat_map, Option, Some, None, slice_set}
 use Rattle.std.specs.List.{slice_index_or}
 use Rattle.mp5_words.specs.Words.{op1, op2, truth, hash, cell}
 use Rattle.mp5_words.specs.declared.hashing.HashKind.{HashKind}
 use Rattle.domino_tree.specs.declared.program.Program.{Program}
 use Rattle.domino_tree.specs.Value.{Array, Store, names_of, word_at, cells_at, picked}
-use Rattle.domino_tree.specs.Execution.{Does, Choice, touching, cell_set, in_turn, at_last, chosen}
+use Rattle.domino_tree.specs.Execution.{Does, Choice, touching, cell_set, in_turn, chosen}
 use Rattle.domino_check.specs.declared.numbered.CheckedExpr.{CheckedExpr, fold-CheckedExpr}
 use Rattle.domino_check.specs.declared.numbered.CheckedExpr.TheOpen.{CheckedExpr-F}
 use Rattle.domino_check.specs.declared.numbered.CheckedStmt.{CheckedStmt, fold-CheckedStmt}

@@ -1,5 +1,5 @@
 -- A program's body in numbers, and the accesses of arrays in it, in text order.
-use Rattle.std.specs.Prelude.{◌≡◌, ℕ, ℤ, pos, Bool, List, [], ◌∷◌, ◌++◌, map, flat_map, Option, Some, None}
+use Rattle.std.specs.Prelude.{ℕ, ℤ, pos, List, [], ◌∷◌, ◌++◌, map, flat_map, Option, Some, None}
 use Rattle.mp5_words.specs.declared.hashing.HashKind.{HashKind}
 use Rattle.mp5_words.specs.declared.hashing.HashKind.TheVariants.{Two}
 use Rattle.domino_tree.specs.declared.expr.Expr.{Expr, fold-Expr}

@@ -1,4 +1,4 @@
-use Rattle.std.proofs.Common.{◌≡◌, inl, inr, sym, ◌∙◌, subst}
+use Rattle.std.proofs.Common.{inl, inr, sym, ◌∙◌, subst}
 use Rattle.std.proofs.lemmas.Result.{err_from_is_err_and}
 use Rattle.domino_check.specs.Refused.{RefusedNames, RefusedSizes, RefusedIndexes}
 use Rattle.domino_check.proofs.checking.check_all.Goals as goal

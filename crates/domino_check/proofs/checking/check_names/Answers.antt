@@ -1,11 +1,9 @@
-use Rattle.std.proofs.Common.{◌≡◌, List, inl, inr, sym, ◌∙◌, subst}
+use Rattle.std.proofs.Common.{List, inl, inr, sym, ◌∙◌, subst}
 use Rattle.std.proofs.lemmas.Result.{err_from_is_err_and, on_ok_weaker, IfErr-weaker}
-use Rattle.domino_check.specs.declared.fault.CheckFault.{CheckFault}
 use Rattle.domino_check.specs.First.{FirstFault, NoFault}
 use Rattle.domino_check.specs.Declarations.{Declaration}
 use Rattle.domino_check.specs.Uses.{Use}
 use Rattle.domino_check.specs.Checks.{TwiceAt, UnknownAt, WrongKindAt, ArityAt}
-use Rattle.domino_check.specs.Refused.{RefusedNames}
 use Rattle.domino_check.proofs.AssemblyLemmas.{table_kinds, at_program}
 use Rattle.domino_check.specs.Tables.{kind_at}
 use Rattle.domino_check.proofs.checking.check_names.Goals as goal

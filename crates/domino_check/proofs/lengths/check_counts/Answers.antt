@@ -2,7 +2,6 @@ use Rattle.std.proofs.Common.{◌≡◌, [], ◌∷◌, length, vec_len, arith, 
 use Rattle.std.proofs.lemmas.Result.{err_from_is_err_and, on_ok_weaker, IfErr-weaker}
 use Rattle.domino_tree.specs.Value.{names_of}
 use Rattle.domino_check.specs.declared.fault.What.TheVariants as what
-use Rattle.domino_check.specs.declared.fault.CheckFault.{CheckFault}
 use Rattle.domino_check.specs.Checks.{FirstTooMany}
 use Rattle.domino_check.proofs.FirstLemmas.{none_at_start}
 use Rattle.domino_check.proofs.CountLemmas.{defines_counted, lengths_counted, arrays_counted, few, few_defines, few_fields, few_arrays, few_cells, many}

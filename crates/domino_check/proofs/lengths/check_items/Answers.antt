@@ -1,4 +1,4 @@
-use Rattle.std.proofs.Common.{◌≡◌, rules, w32, to_z, of_z, FitsSigned, Some, sym, ap, ◌∙◌}
+use Rattle.std.proofs.Common.{rules, w32, to_z, of_z, FitsSigned, Some, sym, ap, ◌∙◌}
 use Rattle.std.proofs.lemmas.Int.{to_z-of_z}
 use Rattle.domino_check.specs.declared.fault.CheckFault.TheVariants as fault
 use Rattle.domino_check.specs.Checks.{BadLengthAt}

@@ -1,4 +1,4 @@
-use Rattle.std.proofs.Common.{◌≡◌, ◌++◌, map, flat_map, ap, ◌∙◌}
+use Rattle.std.proofs.Common.{◌++◌, map, flat_map, ap, ◌∙◌}
 use Rattle.std.proofs.lemmas.List.{take_all}
 use Rattle.domino_tree.specs.Value.{Array, item_array}
 use Rattle.domino_check.proofs.CountLemmas.{lengths_more}
