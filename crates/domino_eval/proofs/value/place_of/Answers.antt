@@ -19,6 +19,6 @@ cell_of-requires-clause-most c =
 pub returns-in-Some : goal.returns-in-Some
 returns-in-Some c =
     let fits : FitsSigned w32 c.plain_value.result = search rules in
-    let found = sym c.index.ensures ∙ ap option_copied c.in-Some.is in
+    let found = sym c.index.ensures.index ∙ ap option_copied c.in-Some.is in
     place_at c.args.checked.now c.arrays-arrays.result.now c.args.array c.index-arrays-array.result c.in-Some.index.now _ c.args.fields.now c.cell_of.result c.arrays-arrays.ensures.arrays c.if-array-arrays.false found
     (to_z-of_z w32 c.plain_value.result fits ∙ c.plain_value.ensures) c.cell_of.ensures.value
