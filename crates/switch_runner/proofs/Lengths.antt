@@ -5,10 +5,9 @@ use Rattle.domino_tree.specs.declared.expr.Expr.{Expr}
 use Rattle.domino_tree.specs.declared.program.Target.{Target}
 use Rattle.domino_tree.specs.declared.program.Target.TheVariants as target
 use Rattle.domino_tree.specs.declared.program.Stmt.{Stmt}
-use Rattle.domino_tree.specs.declared.program.Stmt.TheVariants as s
 use Rattle.domino_tree.specs.declared.program.Arm.{Arm}
 use Rattle.domino_tree.specs.declared.program.Program.{Program}
-use Rattle.domino_tree.specs.Value.{Names, Array, Store, names_of, value, array_number, field_number, index_place, cells_at}
+use Rattle.domino_tree.specs.Value.{Names, Array, Store, names_of, value, array_number, field_number, index_place}
 use Rattle.domino_tree.specs.Execution.{State, Does, Choice, cell_set, set_target, in_turn, at_last, touch, chosen, step, choice, exec}
 use Rattle.domino_tree.specs.Sequential.{start_cells, untouched, run_from, one}
 use Rattle.domino_tree.proofs.ExecutionLemmas as executed

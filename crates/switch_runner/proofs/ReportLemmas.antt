@@ -1,5 +1,5 @@
 -- The text from a field or a register on.
-use Rattle.std.proofs.Common.{◌≡◌, ◌∙◌, ◌<◌, ◌≤◌, ◌+◌, ◌-◌, ◌*◌, take, arith, codes, decimal, append_assoc, ℕ, zero, suc, ℤ, pos, List, [], ◌∷◌, ◌++◌, map, length, drop, get_or, Some, refl, sym, ap, add-one, drop-cons}
+use Rattle.std.proofs.Common.{◌≡◌, ◌∙◌, ◌<◌, ◌≤◌, ◌+◌, ◌-◌, ◌*◌, take, arith, codes, decimal, append_assoc, ℕ, zero, suc, ℤ, pos, List, [], ◌∷◌, ◌++◌, length, drop, get_or, Some, refl, sym, ap, add-one, drop-cons}
 use Rattle.std.specs.List.{slice_get}
 use Rattle.capture_io.specs.Rows.{rows}
 use Rattle.std.proofs.lemmas.List.{append-nil, length-map, drop_more}

@@ -1,12 +1,12 @@
 -- A run on a bench, packet by packet.
-use Rattle.std.proofs.Common.{◌≡◌, ◌∙◌, ◌+◌, ℕ, ℤ, List, [], ◌∷◌, ◌++◌, drop, Some, refl, sym, ap, append_assoc}
+use Rattle.std.proofs.Common.{◌≡◌, ◌∙◌, ◌+◌, ℕ, ℤ, List, [], ◌∷◌, ◌++◌, drop, Some, sym, ap, append_assoc}
 use Rattle.std.specs.Prelude.{slice_get}
 use Rattle.std.specs.List.{flat_map}
 use Rattle.std.proofs.lemmas.List.{drop_more}
 use Rattle.std.proofs.lemmas.Option.{get_or_from_slice_get, slice_get_within}
 use Rattle.domino_tree.specs.declared.program.Program.{Program}
 use Rattle.domino_tree.specs.Value.{names_of}
-use Rattle.domino_tree.specs.Sequential.{start_cells, one}
+use Rattle.domino_tree.specs.Sequential.{start_cells}
 use Rattle.domino_eval.specs.Parts.{Held, executed}
 use Rattle.switch_runner.specs.Running.{IsEnd, run_bench}
 
