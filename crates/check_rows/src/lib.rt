@@ -6,6 +6,7 @@ mod tests {
     use domino_check::{CheckFault, What, check};
     use domino_syntax::read_program;
     use std::alloc::{AllocError, Global};
+    use std::process::Abort;
     use std::test::Fail;
 
     /// The answer to a program: `ok`, or the number of the fault with what it tells.
@@ -53,100 +54,156 @@ mod tests {
         )
     }
 
-    /// Items, a body, and the answer.
-    const ROWS: [(&str, &str, &str); 68] = [
-        ("", "", "ok"),
-        // declared twice: another class is another name, the hash names are there, the struct's is in none
-        ("int a; int a;", "", "5 a"),
-        ("#define a 1\nint a;", "", "5 a"),
-        ("int f;", "", "5 f"),
-        ("int p;", "", "5 p"),
-        ("int hash2;", "", "5 hash2"),
-        ("int hash2a;", "", "5 hash2a"),
-        ("#define hash2b 1\n", "", "5 hash2b"),
-        ("int hash3[4];", "", "5 hash3"),
-        ("int hash4;", "", "ok"),
-        ("int P;", "", "ok"),
-        ("int x;", "p.x = x;", "ok"),
-        // of two doubled names the one that is doubled first is told
-        ("int a; int b; int b; int a;", "", "5 b"),
-        // declared nowhere, in the class of the place
-        ("", "p.x = a;", "6 a"),
-        ("", "a = 1;", "6 a"),
-        ("", "p.a = 1;", "6 a"),
-        ("", "q.x = 1;", "6 q"),
-        ("", "q.a = 1;", "6 q"),
-        ("", "p.x = x;", "6 x"),
-        ("", "p.x = P;", "6 P"),
-        ("", "p.x = a[1];", "6 a"),
-        ("", "p.x = hash4(1, 2);", "6 hash4"),
-        ("int a[n];", "", "6 n"),
-        ("int a = n;", "", "6 n"),
-        ("int a = {n};", "", "6 n"),
-        // the earlier place of two
-        ("", "p.x = a + b;", "6 a"),
-        ("", "a = b;", "6 a"),
-        ("", "if (a) { b = 1; }", "6 a"),
-        ("", "p.x = hash2(a, b) + c;", "6 a"),
-        // a use before its declaration is none, wherever the declaration stands
-        ("int a[m]; #define m 4\n", "p.x = a[p.y];", "ok"),
-        // another kind
-        ("int a[4];", "p.x = a;", "7 a"),
-        ("int a[4];", "a = 1;", "7 a"),
-        ("int a;", "p.x = a[1];", "7 a"),
-        ("#define a 1\n", "a = 1;", "7 a"),
-        ("#define a 1\n", "p.x = a[1];", "7 a"),
-        ("int a;", "a.x = 1;", "7 a"),
-        ("int a;", "p.x = a(1, 2);", "7 a"),
-        ("int a; int b[a];", "", "7 a"),
-        ("int a; int b = a;", "", "7 a"),
-        ("", "p.x = p;", "7 p"),
-        ("", "p.x = f;", "7 f"),
-        ("", "p.x = hash2;", "7 hash2"),
-        ("", "p.x = p[1];", "7 p"),
-        ("#define m 3\n", "p.x = m;", "ok"),
-        // calls with one to four arguments
-        ("", "p.x = hash2();", "8 hash2"),
-        ("", "p.x = hash2(1);", "8 hash2"),
-        ("", "p.x = hash2(1, 2);", "ok"),
-        ("", "p.x = hash2(1, 2, 3);", "8 hash2"),
-        ("", "p.x = hash3(1, 2);", "8 hash3"),
-        ("", "p.x = hash3(1, 2, 3);", "ok"),
-        ("", "p.x = hash3(1, 2, 3, 4);", "8 hash3"),
-        ("", "p.x = hash2a(hash2b(1), 2, 3);", "8 hash2a"),
-        // lengths
-        ("int a[0];", "", "9 a 0"),
-        ("int a[1];", "", "ok"),
-        ("int a[65536];", "", "ok"),
-        ("int a[65537];", "", "9 a 65537"),
-        ("int a[4294967295];", "", "9 a -1"),
-        ("#define m -4\nint a[m];", "", "9 a -4"),
-        ("int a[0]; int b[65537];", "", "9 a 0"),
-        // a lower number wins over a higher one, wherever it stands
-        ("int a[0]; int b; int b;", "", "5 b"),
-        ("int a[0];", "p.x = b;", "6 b"),
-        ("int a[0];", "p.x = hash2(1);", "8 hash2"),
-        // indexes: equal up to brackets and defined names; any other index, and one with an array in it
-        ("#define m 3\nint a[8];", "a[(p.x + m)] = a[p.x + 3];", "ok"),
-        ("int a[8];", "a[p.x] = a[p.y];", "11 a"),
-        ("int a[8]; int b[8];", "a[b[0]] = 1;", "11 a"),
-        ("int a[8]; int c;", "a[c] = 1;", "11 a"),
-        // an index that moves: at the assignment, behind it, and inside a condition
-        ("int a[8];", "p.x = a[p.x];", "12 a"),
-        (
-            "int a[8]; int b[8];",
-            "p.n = b[p.x] + a[p.x]; if (p.n) { p.x = 1; }",
-            "12 a",
-        ),
-    ];
+    /// These items with this body give this answer.
+    fn assert_answers(
+        rt: &impl Abort,
+        alloc: Global,
+        rows: &[(&str, &str, &str)],
+    ) -> Result<(), AllocError> {
+        for (items, body, want) in rows {
+            let text = with_body(alloc, items, body)?;
+            let got = answer(alloc, text.as_str())?;
+            assert_eq!(rt; got.as_str(), *want, "at {text}");
+        }
+        Ok(())
+    }
 
     #[test]
-    fn answers(rt: HostRuntime) -> Result<(), Fail> {
-        for (items, body, want) in ROWS {
-            let text = with_body(rt.alloc(), items, body)?;
-            let got = answer(rt.alloc(), text.as_str())?;
-            assert_eq!(rt; got.as_str(), want, "at {text}");
-        }
+    fn declares_each_name_once(rt: HostRuntime) -> Result<(), Fail> {
+        let rows = [
+            ("", "", "ok"),
+            // declared twice: another class is another name, the hash names are there, the struct's is in none
+            ("int a; int a;", "", "5 a"),
+            ("#define a 1\nint a;", "", "5 a"),
+            ("int f;", "", "5 f"),
+            ("int p;", "", "5 p"),
+            ("int hash2;", "", "5 hash2"),
+            ("int hash2a;", "", "5 hash2a"),
+            ("#define hash2b 1\n", "", "5 hash2b"),
+            ("int hash3[4];", "", "5 hash3"),
+            ("int hash4;", "", "ok"),
+            ("int P;", "", "ok"),
+            ("int x;", "p.x = x;", "ok"),
+            // of two doubled names the one that is doubled first is told
+            ("int a; int b; int b; int a;", "", "5 b"),
+        ];
+        assert_answers(&rt, rt.alloc(), &rows)?;
+        Ok(())
+    }
+
+    #[test]
+    fn knows_each_name(rt: HostRuntime) -> Result<(), Fail> {
+        let rows = [
+            // declared nowhere, in the class of the place
+            ("", "p.x = a;", "6 a"),
+            ("", "a = 1;", "6 a"),
+            ("", "p.a = 1;", "6 a"),
+            ("", "q.x = 1;", "6 q"),
+            ("", "q.a = 1;", "6 q"),
+            ("", "p.x = x;", "6 x"),
+            ("", "p.x = P;", "6 P"),
+            ("", "p.x = a[1];", "6 a"),
+            ("", "p.x = hash4(1, 2);", "6 hash4"),
+            ("int a[n];", "", "6 n"),
+            ("int a = n;", "", "6 n"),
+            ("int a = {n};", "", "6 n"),
+            // the earlier place of two
+            ("", "p.x = a + b;", "6 a"),
+            ("", "a = b;", "6 a"),
+            ("", "if (a) { b = 1; }", "6 a"),
+            ("", "p.x = hash2(a, b) + c;", "6 a"),
+            // a use before its declaration is none, wherever the declaration stands
+            ("int a[m]; #define m 4\n", "p.x = a[p.y];", "ok"),
+        ];
+        assert_answers(&rt, rt.alloc(), &rows)?;
+        Ok(())
+    }
+
+    #[test]
+    fn takes_names_as_they_are_declared(rt: HostRuntime) -> Result<(), Fail> {
+        let rows = [
+            // another kind
+            ("int a[4];", "p.x = a;", "7 a"),
+            ("int a[4];", "a = 1;", "7 a"),
+            ("int a;", "p.x = a[1];", "7 a"),
+            ("#define a 1\n", "a = 1;", "7 a"),
+            ("#define a 1\n", "p.x = a[1];", "7 a"),
+            ("int a;", "a.x = 1;", "7 a"),
+            ("int a;", "p.x = a(1, 2);", "7 a"),
+            ("int a; int b[a];", "", "7 a"),
+            ("int a; int b = a;", "", "7 a"),
+            ("", "p.x = p;", "7 p"),
+            ("", "p.x = f;", "7 f"),
+            ("", "p.x = hash2;", "7 hash2"),
+            ("", "p.x = p[1];", "7 p"),
+            ("#define m 3\n", "p.x = m;", "ok"),
+        ];
+        assert_answers(&rt, rt.alloc(), &rows)?;
+        Ok(())
+    }
+
+    #[test]
+    fn counts_arguments(rt: HostRuntime) -> Result<(), Fail> {
+        let rows = [
+            // calls with one to four arguments
+            ("", "p.x = hash2();", "8 hash2"),
+            ("", "p.x = hash2(1);", "8 hash2"),
+            ("", "p.x = hash2(1, 2);", "ok"),
+            ("", "p.x = hash2(1, 2, 3);", "8 hash2"),
+            ("", "p.x = hash3(1, 2);", "8 hash3"),
+            ("", "p.x = hash3(1, 2, 3);", "ok"),
+            ("", "p.x = hash3(1, 2, 3, 4);", "8 hash3"),
+            ("", "p.x = hash2a(hash2b(1), 2, 3);", "8 hash2a"),
+        ];
+        assert_answers(&rt, rt.alloc(), &rows)?;
+        Ok(())
+    }
+
+    #[test]
+    fn keeps_lengths(rt: HostRuntime) -> Result<(), Fail> {
+        let rows = [
+            // lengths
+            ("int a[0];", "", "9 a 0"),
+            ("int a[1];", "", "ok"),
+            ("int a[65536];", "", "ok"),
+            ("int a[65537];", "", "9 a 65537"),
+            ("int a[4294967295];", "", "9 a -1"),
+            ("#define m -4\nint a[m];", "", "9 a -4"),
+            ("int a[0]; int b[65537];", "", "9 a 0"),
+        ];
+        assert_answers(&rt, rt.alloc(), &rows)?;
+        Ok(())
+    }
+
+    #[test]
+    fn lets_the_lower_number_win(rt: HostRuntime) -> Result<(), Fail> {
+        let rows = [
+            // a lower number wins over a higher one, wherever it stands
+            ("int a[0]; int b; int b;", "", "5 b"),
+            ("int a[0];", "p.x = b;", "6 b"),
+            ("int a[0];", "p.x = hash2(1);", "8 hash2"),
+        ];
+        assert_answers(&rt, rt.alloc(), &rows)?;
+        Ok(())
+    }
+
+    #[test]
+    fn keeps_indexes(rt: HostRuntime) -> Result<(), Fail> {
+        let rows = [
+            // indexes: equal up to brackets and defined names; any other index, and one with an array in it
+            ("#define m 3\nint a[8];", "a[(p.x + m)] = a[p.x + 3];", "ok"),
+            ("int a[8];", "a[p.x] = a[p.y];", "11 a"),
+            ("int a[8]; int b[8];", "a[b[0]] = 1;", "11 a"),
+            ("int a[8]; int c;", "a[c] = 1;", "11 a"),
+            // an index that moves: at the assignment, behind it, and inside a condition
+            ("int a[8];", "p.x = a[p.x];", "12 a"),
+            (
+                "int a[8]; int b[8];",
+                "p.n = b[p.x] + a[p.x]; if (p.n) { p.x = 1; }",
+                "12 a",
+            ),
+        ];
+        assert_answers(&rt, rt.alloc(), &rows)?;
         Ok(())
     }
 

@@ -28,15 +28,15 @@ fn words(rt: HostRuntime) -> Result<(), Fail> {
         ),
         (
             2,
-            "mp5 one -p c|mp5 one -- c|mp5 one --brief c|mp5 one p -c|mp5 one -p -c",
+            "mp5 one -p c|mp5 one -- c|mp5 one --brief c|mp5 one p -c|mp5 one -p -c|mp5 one p c -- d|mp5 -V|mp5 one --version p c",
         ),
         (
             2,
-            "mp5 one p gen:1:1|mp5 one p gen:|mp5 one p gen:x|mp5 one -p gen:x",
+            "mp5 one p gen:1:1|mp5 one p gen:|mp5 one p gen:x|mp5 one -p gen:x|mp5 one p -- gen:1:1",
         ),
         (
             5,
-            "mp5 one p c|-x one p c| one p c|mp5 one c p|mp5 one p p|mp5 one p q|mp5 one p gen|mp5 one p Gen:1:1|mp5 one p |mp5 one p -",
+            "mp5 one p c|-x one p c| one p c|mp5 one c p|mp5 one p p|mp5 one p q|mp5 one p gen|mp5 one p Gen:1:1|mp5 one p |mp5 one p -|mp5 -- one p c",
         ),
     ] {
         for line in lines.split('|') {
@@ -81,20 +81,24 @@ fn words(rt: HostRuntime) -> Result<(), Fail> {
     Ok(())
 }
 
-// Where help is asked for, nothing is read or written to the output.
+// Help is told on the errors' sink, and nothing is read or written.
 #[test]
-fn help(rt: HostRuntime) -> Result<(), Fail> {
+fn calls_for_help(rt: HostRuntime) -> Result<(), Fail> {
     let alloc = rt.alloc();
-    for line in ["mp5 --help", "mp5 -h", "mp5 one p --help", "mp5 --help p c"] {
+    for line in [
+        "mp5 --help",
+        "mp5 -h",
+        "mp5 --help p c",
+        "mp5 one p --help",
+        "mp5 one p c -h",
+        "mp5 fly p c --help",
+    ] {
         let mut store = counting(alloc, &[1])?;
         let (out, err) = (sink(alloc, 99, &[])?, sink(alloc, 99, &[])?);
         let ended = call(alloc, line, &mut store, out, err)?;
         assert_eq!(rt; ended.status.code(), 1, "at {line}");
         assert_eq!(rt; text_of(&ended.out), "", "at {line}");
-        assert!(rt;
-            text_of(&ended.err).starts_with("Runs a packet transaction"),
-            "at {line}"
-        );
+        assert!(rt; text_of(&ended.err).starts_with("Runs a packet transaction over"));
     }
     Ok(())
 }

@@ -59,147 +59,181 @@ const TRANSACTION: (&str, &str) = ("int c; struct P { int n; }; ", "");
 // 2 keeps the byte where no token begins, and 3 how many tokens there are before the one that nothing goes on
 // with. There are 25 tokens before a statement, 11 before a transaction, and 6 before a field.
 #[test]
-fn texts(rt: HostRuntime) -> Result<(), Fail> {
+fn items(rt: HostRuntime) -> Result<(), Fail> {
     let alloc = rt.alloc();
-    let rows: [((&str, &str), Result<(), &str>, &str); 57] = [
+    let rows: [(Result<(), &str>, &str); 21] = [
         (
-            ITEM,
             Ok(()),
             "|int c;|int _; int __0; int A1; int a1;|int Int; int ifs; int voids;|int c; int C; int cc;
             |int P;|int n;|int hash; int hash1; int hash2c; int hash3a; int Hash2;
             |int saddr; int daddr; int proto; int ttl; int tos; int len; int arrival;|#include <a>\n
-            |#include\n|// a\n|/* a */|int/**/c;|int c[4];|int c[1];|int c = 0;|int c = {0};|#define A 1\n",
+            |#include\n|// a\n|/* a */|int/**/c;",
         ),
-        (ITEM, Err("5 c"), "int c; int c;|int c; int d; int c;"),
-        (ITEM, Err("5 f"), "int f;"),
-        (ITEM, Err("5 p"), "int p;"),
-        (ITEM, Err("5 hash2"), "int hash2;"),
-        (ITEM, Err("5 hash2a"), "int hash2a;"),
-        (ITEM, Err("5 hash2b"), "int hash2b;"),
-        (ITEM, Err("5 hash3"), "int hash3;"),
-        (ITEM, Err("2 0"), "/* a|#defined A 1\n"),
-        (ITEM, Err("2 4"), "int 1a;"),
-        (ITEM, Err("2 5"), "int a$;"),
-        (ITEM, Err("3 0"), ";|c;|void c;|Int c;|intc;"),
         (
-            ITEM,
+            Ok(()),
+            "int c[4];|int c[1];|int c[65536];|int c = 0;|int c = {0};|#define A 1\n|int c = A; #define A -1\n
+            |int c[A]; #define A 0x10\n",
+        ),
+        (
+            Err("5 c"),
+            "int c; int c;|int c; int d; int c;|int c; #define c 1\n",
+        ),
+        (Err("5 f"), "int f;"),
+        (Err("5 p"), "int p;"),
+        (Err("5 hash2"), "int hash2;"),
+        (Err("5 hash2a"), "int hash2a;|#define hash2a 1\n"),
+        (Err("5 hash2b"), "int hash2b[4];"),
+        (Err("5 hash3"), "int hash3;"),
+        (Err("6 A"), "int c = A;|int c[A];"),
+        (Err("7 d"), "int d; int c = d;|int c[d]; int d;"),
+        (Err("9 c 0"), "int c[0];|int c[A]; #define A 0\n"),
+        (Err("9 c -1"), "int c[4294967295];|int c[A]; #define A -1\n"),
+        (Err("9 c 65537"), "int c[65537];"),
+        (
+            Err("10 cells 262145"),
+            "int a[65536]; int b[65536]; int c[65536]; int d[65536]; int e;",
+        ),
+        (Err("2 0"), "/* a|#defined A 1\n"),
+        (Err("2 4"), "int 1a;"),
+        (Err("2 5"), "int a$;"),
+        (Err("3 0"), ";|c;|void c;|Int c;|intc;"),
+        (
             Err("3 1"),
             "int 1;|int ;|int;|int int c;|int if;|int int;|int void;|int else;|int struct;",
         ),
+        (Err("3 2"), "int a-b;|int a.b;|int c|int c d;|int c, d;"),
+    ];
+    for (want, pieces) in rows {
+        assert_texts(&rt, alloc, ITEM, want, pieces)?;
+    }
+    Ok(())
+}
+
+#[test]
+fn fields(rt: HostRuntime) -> Result<(), Fail> {
+    let alloc = rt.alloc();
+    let rows: [(Result<(), &str>, &str); 8] = [
         (
-            ITEM,
-            Err("3 2"),
-            "int a-b;|int a.b;|int c|int c d;|int c, d;",
-        ),
-        (
-            FIELD,
             Ok(()),
             "|int n;|int n; int N;|int c; int f; int p; int P; int hash2;|int sport; int dport;
             |int leng; int le; int Len; int arrivals;|int saddr;|int daddr;|int proto;|int ttl;|int tos;
             |int len;|int n; int arrival; int m;",
         ),
-        (FIELD, Err("5 n"), "int n; int n;|int n; int m; int n;"),
-        (FIELD, Err("5 saddr"), "int saddr; int saddr;"),
-        (FIELD, Err("5 arrival"), "int arrival; int n; int arrival;"),
-        (FIELD, Err("3 6"), "n;|intn;"),
-        (FIELD, Err("3 7"), "int if;"),
-        (FIELD, Err("3 8"), "int n|int n = 0;|int n, m;|int n[2];"),
-        (FIELD, Err("3 9"), "int n;;"),
+        (Err("5 n"), "int n; int n;|int n; int m; int n;"),
+        (Err("5 saddr"), "int saddr; int saddr;"),
+        (Err("5 arrival"), "int arrival; int n; int arrival;"),
+        (Err("3 6"), "n;|intn;"),
+        (Err("3 7"), "int if;"),
+        (Err("3 8"), "int n|int n = 0;|int n, m;|int n[2];"),
+        (Err("3 9"), "int n;;"),
+    ];
+    for (want, pieces) in rows {
+        assert_texts(&rt, alloc, FIELD, want, pieces)?;
+    }
+    Ok(())
+}
+
+#[test]
+fn statements(rt: HostRuntime) -> Result<(), Fail> {
+    let alloc = rt.alloc();
+    let rows: [(Result<(), &str>, &str); 8] = [
         (
-            STATEMENT,
             Ok(()),
             "|c = d; p.n = p.m;|c=1-1+1-p.n-c;|p . n = 1 ; p\t.\n\n m = p.\rn;
             |c = 0; c = 10; c = 2147483648; c = 4294967295;|c = 0x1F;|c = 0x0; c = 0xFFFFFFFF;
-            |c = 1; // one\n|c = /* one */ 1;|c = 1;\n#include \"a\"\n
-            |c = -1;|c = 1 - -1;|c = c == 1;|c = 2 * 3;|c = 6 / 3;|c = 7 % 3;|c = (1);|c = !d;|c = ~d;
+            |c = 1; // one\n|c = /* one */ 1;|c = 1;\n#include \"a\"\n",
+        ),
+        (
+            Ok(()),
+            "c = -1;|c = 1 - -1;|c = c == 1;|c = 2 * 3;|c = 6 / 3;|c = 7 % 3;|c = (1);|c = !d;|c = ~d;
             |c = 1 << 2;|c = 1 >> 2;|c = 1 < 2;|c = 1 & 2;|c = 1 ^ 2;|c = d ? 1 : 2;|c = hash2(p.n, 1);
-            |if (c) { d = 1; }|if (c) { } else { }",
+            |c = hash3(1, 2, 3);|if (c) { d = 1; }|if (c) { } else { }|if (c) { } else if (d) { } else { }",
         ),
-        // Names that are declared nowhere in their class, and names of another kind.
         (
-            STATEMENT,
-            Err("6 e"),
-            "e = 1;|c = e;|c = 1 + 2 - e;|p.e = 1;|c = p.e;",
-        ),
-        (STATEMENT, Err("6 C"), "C = 1;"),
-        (STATEMENT, Err("6 cc"), "c = cc;"),
-        (STATEMENT, Err("6 N"), "c = p.N;"),
-        (STATEMENT, Err("6 q"), "q.n = 1;|c = q.n;"),
-        (STATEMENT, Err("6 n"), "n = 1;|c = n;"),
-        (STATEMENT, Err("6 c"), "p.c = 1;|c = p.c;"),
-        (STATEMENT, Err("6 P"), "P.n = 1;|c = P.n;|P = 1;|c = P;"),
-        (STATEMENT, Err("7 c"), "c[0] = 1;|c.n = 1;|c = c.n;"),
-        (STATEMENT, Err("7 d"), "c = d[0];"),
-        (STATEMENT, Err("7 f"), "f.n = 1;|c = f.n;|f = 1;|c = f;"),
-        (STATEMENT, Err("7 p"), "p = 1;|c = p;"),
-        (STATEMENT, Err("7 hash2"), "hash2 = 1;"),
-        (STATEMENT, Err("7 hash3"), "c = hash3;"),
-        (
-            STATEMENT,
             Err("2 66"),
             "c = 4294967296;|c = 18446744073709551617;|c = 340282366920938463463374607431768211457;
             |c = 012;|c = 00;|c = 1_0;|c = 1u;|c = 0x;|c = 0x123456789;",
         ),
+        (Err("3 25"), ";|1 = c;|{ c = 1; }|int e; e = 1;|.n = 1;"),
         (
-            STATEMENT,
-            Err("3 25"),
-            ";|1 = c;|{ c = 1; }|int e; e = 1;|.n = 1;",
-        ),
-        (
-            STATEMENT,
             Err("3 26"),
             "c;|c == 1;|c += 1;|c++;|return;|p->n = 1;|if = 1;",
         ),
         (
-            STATEMENT,
             Err("3 27"),
             "c = +1;|c = ;|p..n = 1;|p.1 = 1;|p. = 1;|p.if = 1;",
         ),
+        (Err("3 28"), "c = 1.5;|c = 1|c = d = 1;|p.n.m = 1;"),
+        (Err("3 29"), "c = 1 + ;|c = 1;;|if (c) d = 1;"),
+    ];
+    for (want, pieces) in rows {
+        assert_texts(&rt, alloc, STATEMENT, want, pieces)?;
+    }
+    Ok(())
+}
+
+#[test]
+fn names_in_statements(rt: HostRuntime) -> Result<(), Fail> {
+    let alloc = rt.alloc();
+    let rows: [(Result<(), &str>, &str); 16] = [
         (
-            STATEMENT,
-            Err("3 28"),
-            "c = 1.5;|c = 1|c = d = 1;|p.n.m = 1;",
+            Err("6 e"),
+            "e = 1;|c = e;|c = 1 + 2 - e;|p.e = 1;|c = p.e;|c = e[0];|e[0] = 1;|c = e(1);",
         ),
-        (STATEMENT, Err("3 29"), "c = 1 + ;|c = 1;;|if (c) d = 1;"),
+        (Err("6 C"), "C = 1;"),
+        (Err("6 cc"), "c = cc;"),
+        (Err("6 N"), "c = p.N;"),
+        (Err("6 q"), "q.n = 1;|c = q.n;"),
+        (Err("6 n"), "n = 1;|c = n;"),
+        (Err("6 c"), "p.c = 1;|c = p.c;"),
+        (Err("6 P"), "P.n = 1;|c = P.n;|P = 1;|c = P;"),
+        (Err("7 c"), "c[0] = 1;|c.n = 1;|c = c.n;|d = c(1, 2);"),
+        (Err("7 d"), "c = d[0];"),
+        (Err("7 f"), "f.n = 1;|c = f.n;|f = 1;|c = f;"),
+        (Err("7 p"), "p = 1;|c = p;"),
+        (Err("7 hash2"), "hash2 = 1;"),
+        (Err("7 hash3"), "c = hash3;"),
         (
-            TRANSACTION,
+            Err("8 hash2"),
+            "c = hash2(1);|c = hash2();|c = hash2(1, 2, 3);",
+        ),
+        (Err("8 hash3"), "c = hash3(1, 2);"),
+    ];
+    for (want, pieces) in rows {
+        assert_texts(&rt, alloc, STATEMENT, want, pieces)?;
+    }
+    Ok(())
+}
+
+#[test]
+fn transactions(rt: HostRuntime) -> Result<(), Fail> {
+    let alloc = rt.alloc();
+    let rows: [(Result<(), &str>, &str); 14] = [
+        (
             Ok(()),
             "void g(struct P q) { q.n = c; }|int d; void g(struct P n) { n.n = d; }
             |void len(struct P ttl) { }|void P(struct P n) { }|void n(struct P P) { P.n = 1; }",
         ),
-        (TRANSACTION, Err("5 p"), "void p(struct P p) { }"),
+        (Err("6 Q"), "void f(struct Q p) { }"),
+        (Err("6 p"), "void f(struct p p) { }"),
+        (Err("6 c"), "void f(struct c p) { }"),
+        (Err("5 p"), "void p(struct P p) { }"),
+        (Err("5 c"), "void c(struct P p) { }|void f(struct P c) { }"),
+        (Err("5 hash2b"), "void hash2b(struct P p) { }"),
+        (Err("5 hash3"), "void f(struct P hash3) { }"),
+        (Err("3 11"), "|struct Q { }; void f(struct P p) { }"),
+        (Err("3 12"), "void if(struct P p) { }"),
+        (Err("3 13"), "int f(struct P p) { }"),
+        (Err("3 14"), "int d;|void f() { }|void f(P p) { }"),
+        (Err("3 16"), "void f(struct P int) { }"),
         (
-            TRANSACTION,
-            Err("5 c"),
-            "void c(struct P p) { }|void f(struct P c) { }",
-        ),
-        (TRANSACTION, Err("5 hash2b"), "void hash2b(struct P p) { }"),
-        (TRANSACTION, Err("5 hash3"), "void f(struct P hash3) { }"),
-        (TRANSACTION, Err("6 Q"), "void f(struct Q p) { }"),
-        (TRANSACTION, Err("6 p"), "void f(struct p p) { }"),
-        (TRANSACTION, Err("6 c"), "void f(struct c p) { }"),
-        (
-            TRANSACTION,
-            Err("3 11"),
-            "|struct Q { }; void f(struct P p) { }",
-        ),
-        (TRANSACTION, Err("3 12"), "void if(struct P p) { }"),
-        (TRANSACTION, Err("3 13"), "int f(struct P p) { }"),
-        (
-            TRANSACTION,
-            Err("3 14"),
-            "int d;|void f() { }|void f(P p) { }",
-        ),
-        (TRANSACTION, Err("3 16"), "void f(struct P int) { }"),
-        (
-            TRANSACTION,
             Err("3 20"),
             "void f(struct P p) { } ;|void f(struct P p) { } }|void f(struct P p) { } int d;
             |void f(struct P p) { } void g(struct P p) { }",
         ),
     ];
-    for (around, want, pieces) in rows {
-        assert_texts(&rt, alloc, around, want, pieces)?;
+    for (want, pieces) in rows {
+        assert_texts(&rt, alloc, TRANSACTION, want, pieces)?;
     }
     Ok(())
 }
@@ -223,7 +257,7 @@ fn in_brackets(alloc: Global, count: u8) -> Result<String, AllocError> {
 #[test]
 fn whole_texts(rt: HostRuntime) -> Result<(), Fail> {
     let alloc = rt.alloc();
-    let rows: [(&str, &str); 7] = [
+    let rows: [(&str, &str); 9] = [
         ("", "3 0"),
         ("struct P @", "2 9"),
         ("struct P { int n; }; /* the rest", "2 21"),
@@ -239,6 +273,14 @@ fn whole_texts(rt: HostRuntime) -> Result<(), Fail> {
         (
             "struct P { int n; }; void f(struct P p) { if (p.n) p.n = 0; }",
             "3 22",
+        ),
+        (
+            "struct P { int sport; int n; }; int c[5]; void f(struct P p) { c[p.sport] = 1; p.n = c[p.n]; }",
+            "11 c",
+        ),
+        (
+            "struct P { int sport; int n; }; int c[5]; void f(struct P p) { c[p.sport] = 1; p.sport = 2; }",
+            "12 c",
         ),
     ];
     for (text, refusal) in rows {
@@ -269,7 +311,7 @@ fn sum_of(alloc: Global, operators: u8) -> Result<String, AllocError> {
     Ok(text)
 }
 
-// The most fields, registers, and operators in a statement and its brackets.
+// The most fields, registers, and operators in a statement.
 #[test]
 fn limits(rt: HostRuntime) -> Result<(), Fail> {
     let alloc = rt.alloc();
@@ -345,39 +387,38 @@ fn spaced_by(alloc: Global, byte: u8) -> Result<Vec<u8>, AllocError> {
     Ok(text)
 }
 
-// Where a text ends without the token at this place. `struct p )` lacks a name behind `p`, and `= - 2` is in the
-// grammar.
-fn without(place: usize) -> Option<usize> {
-    match place {
-        15 => Some(16),
-        29 => None,
-        _ => Some(place),
-    }
-}
-
-// Where a text ends with the token at this place doubled. `struct P P p` has a name too many, and `- - 2` is in
-// the grammar.
-fn doubled(place: usize) -> Option<usize> {
-    match place {
-        15 => Some(17),
-        30 => None,
-        _ => Some(place + 1),
-    }
-}
-
-// A text ends at this token, or is run.
-fn assert_place(
+// A text as a program is refused with this number and these values, or run where none are given.
+fn assert_broken(
     rt: &impl Abort,
     alloc: Global,
     text: &str,
-    place: Option<usize>,
+    refusal: &str,
 ) -> Result<(), AllocError> {
+    let want = if refusal.is_empty() {
+        Ok(())
+    } else {
+        Err(refusal)
+    };
+    assert_text(rt, alloc, text.as_bytes(), want, text)
+}
+
+// How a text ends where the token at this place is missing. `struct p )` lacks a name behind `p`, and
+// `= - 2` is in the grammar.
+fn without(alloc: Global, place: usize) -> Result<String, AllocError> {
     match place {
-        None => assert_text(rt, alloc, text.as_bytes(), Ok(()), text),
-        Some(place) => {
-            let want = format!(in alloc; "3 {place}")?;
-            assert_text(rt, alloc, text.as_bytes(), Err(&want), text)
-        }
+        15 => String::from_str(alloc, "3 16"),
+        29 => Ok(String::new(alloc)),
+        _ => format!(in alloc; "3 {place}"),
+    }
+}
+
+// How a text ends where the token at this place is doubled. `struct P P p` has a name too many, and `- - 2` is
+// in the grammar.
+fn doubled(alloc: Global, place: usize) -> Result<String, AllocError> {
+    match place {
+        15 => String::from_str(alloc, "3 17"),
+        30 => Ok(String::new(alloc)),
+        _ => format!(in alloc; "3 {}", place.saturating_add(1)),
     }
 }
 
@@ -388,12 +429,17 @@ fn broken_texts(rt: HostRuntime) -> Result<(), Fail> {
     let count = TOKENS.split(' ').count();
     assert_text(&rt, alloc, TOKENS.as_bytes(), Ok(()), TOKENS)?;
     for place in 0..count {
-        assert_place(&rt, alloc, &with_token(alloc, place, 0)?, without(place))?;
-        assert_place(&rt, alloc, &with_token(alloc, place, 2)?, doubled(place))?;
+        let text = with_token(alloc, place, 0)?;
+        let want = without(alloc, place)?;
+        assert_broken(&rt, alloc, &text, &want)?;
+        let text = with_token(alloc, place, 2)?;
+        let want = doubled(alloc, place)?;
+        assert_broken(&rt, alloc, &text, &want)?;
     }
     let mut front = String::new(alloc);
     for (place, token) in TOKENS.split(' ').enumerate() {
-        assert_place(&rt, alloc, &front, Some(place))?;
+        let want = format!(in alloc; "3 {place}")?;
+        assert_text(&rt, alloc, front.as_bytes(), Err(&want), &front)?;
         front.push_str(token)?;
         front.push(' ')?;
     }
