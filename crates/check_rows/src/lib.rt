@@ -1,9 +1,10 @@
-//! Rows of the checks: programs with their answers, worked out by hand.
+//! Rows of the checks and of what an execution touches: programs with their answers, worked out by hand.
 #![tactic(auto)]
 
 #[cfg(test)]
 mod tests {
     use domino_check::{CheckFault, What, check};
+    use domino_eval::Bench;
     use domino_syntax::read_program;
     use std::alloc::{AllocError, Global};
     use std::process::Abort;
@@ -286,6 +287,33 @@ mod tests {
                 "{items} struct P {{ {fields} }}; void f(struct P p) {{ }}"
             )?;
             assert_eq!(rt; answer(alloc, text.as_str())?.as_str(), want);
+        }
+        Ok(())
+    }
+
+    #[test]
+    fn touches_what_is_evaluated(rt: HostRuntime) -> Result<(), Fail> {
+        let alloc = rt.alloc();
+        let chain = "if (a == p.x) { b[p.x] = 1; } else if (c == p.x) { } else { d = 1; }";
+        for (body, x, want) in [
+            ("", 0, 0),
+            ("a = 1;", 0, 1),
+            ("p.y = c;", 0, 4),
+            ("b[p.x] = c;", 0, 6),
+            // an operand and a choice are evaluated, whatever the other operand and the condition are
+            ("p.y = p.x && d;", 0, 8),
+            ("p.y = p.x ? a : c;", 1, 5),
+            ("p.y = hash3(a, b[p.x], p.x) + hash2(p.x, d);", 1, 11),
+            // the conditions up to the first that holds, and its block
+            (chain, 0, 3),
+            (chain, 2, 5),
+            (chain, 1, 13),
+        ] {
+            let text = with_body(alloc, "int a; int b[4]; int c = 2; int d;", body)?;
+            let checked = check(alloc, read_program(alloc, text.as_bytes())?)?;
+            let mut bench = Bench::new(alloc, &checked)?;
+            let mut fields = [x, 0, 0];
+            assert_eq!(rt; bench.packet(&mut fields), want, "at {text} {x}");
         }
         Ok(())
     }

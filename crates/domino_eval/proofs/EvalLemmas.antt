@@ -1,12 +1,15 @@
 -- Words of a list of expressions, and the places of cells.
-use Rattle.std.proofs.Common.{◌≡◌, ℕ, zero, suc, ℤ, pos, negsuc, ◌+◌, ◌-◌, ◌*◌, ◌^◌, ◌<◌, ◌≤◌, lit<, lit≤, Bool, true, false, if◌then◌else◌, List, [], ◌∷◌, length, map, take, drop, replicate, get_or, None, Some, Option, refl, sym, ap, ◌∙◌, arith}
-use Rattle.std.proofs.lemmas.List.{length-map, length-drop, get_or-map, get_or_past, drop_more, drop_all, take_all}
+use Rattle.std.proofs.Common.{◌≡◌, ℕ, zero, suc, ℤ, pos, negsuc, ◌+◌, ◌-◌, ◌^◌, ◌<◌, ◌≤◌, lit<, lit≤, Bool, true, false, if◌then◌else◌, List, [], ◌∷◌, ◌++◌, length, map, flat_map, take, drop, replicate, get_or, slice_set, None, Some, Option, refl, sym, ap, ◌∙◌, arith}
+use Rattle.std.proofs.lemmas.List.{append-nil, map-append, length-map, length-drop, get_or-map, get_or_past, take_more, drop_more, drop_all, take_all}
+use Rattle.std.proofs.lemmas.List.Sums.{fold-append}
+use Rattle.std.proofs.lemmas.Grind.{flat_map-append}
 use Rattle.std.proofs.Math.Nat.{pow-suc, pow-le-pow_right}
 use Rattle.std.specs.Int.{from_bool}
-use Rattle.mp5_words.specs.Words.{cell}
+use Rattle.mp5_words.specs.Words.{cell, hash}
+use Rattle.mp5_words.specs.declared.hashing.HashKind.{HashKind}
 use Rattle.domino_tree.specs.declared.program.Program.{Program}
 use Rattle.domino_tree.specs.Value.{Array, names_of, word_at}
-use Rattle.domino_tree.specs.Execution.{State, Does, Choice, touch, at_last, chosen}
+use Rattle.domino_tree.specs.Execution.{State, Does, Choice, touching, touch, at_last, chosen}
 use Rattle.domino_tree.specs.Sequential.{start_cells, untouched}
 use Rattle.domino_check.specs.declared.numbered.CheckedStmt.{CheckedStmt}
 use Rattle.domino_check.specs.declared.numbered.CheckedStmt.TheVariants as s
@@ -17,11 +20,42 @@ use Rattle.domino_check.specs.Infos.{infos_of, array_of}
 use Rattle.domino_check.specs.Numbering.{accesses, numbered_body}
 use Rattle.domino_check.specs.Indexes.{index_of, HasIndexes}
 use Rattle.domino_check.specs.Accepted.{AreSized}
-use Rattle.domino_check.specs.NumberedMeaning.{Indexing, indexing, plain_value, named_place, place, numbered_step, numbered_choice, numbered_exec}
+use Rattle.domino_check.specs.NumberedMeaning.{Indexing, indexing, hash_all, numbered_arrays, plain_value, named_place, place, numbered_step, numbered_choice, numbered_exec}
 use Rattle.domino_check.proofs.MeaningLemmas.{step-If, step-Else}
-use Rattle.domino_eval.specs.Parts.{state, entered, last_does, bits, Held, executed}
+use Rattle.domino_eval.specs.Parts.{first_words, state, entered, last_does, bits, Held, executed}
 use Rattle.domino_check.proofs.Agreement.{agreement}
 use Rattle.domino_check.proofs.CheckedLemmas.{infos_are, length-infos}
+
+next_word : (words : List ℤ) (i : ℕ) (z : ℤ) → i < length words → z ≡ word_at words i → slice_set (first_words (take i words)) i z ≡ first_words (take (i + 1) words)
+next_word [] i z within is = absurd (omega arith)
+next_word (a ∷ words) zero z within is = ap (λ y. y ∷ pos 0 ∷ pos 0 ∷ []) is
+next_word (a ∷ []) (suc i) z within is = absurd (omega arith)
+next_word (a ∷ b ∷ words) (suc zero) z within is = ap (λ y. a ∷ y ∷ pos 0 ∷ []) is
+next_word (a ∷ b ∷ []) (suc (suc i)) z within is = absurd (omega arith)
+next_word (a ∷ b ∷ c ∷ words) (suc (suc zero)) z within is = ap (λ y. a ∷ b ∷ y ∷ []) is
+next_word (a ∷ b ∷ c ∷ words) (suc (suc (suc i))) z within is = let e : suc (suc (suc i)) + 1 ≡ suc (suc (suc (suc i))) = omega arith in rw e refl
+
+-- the next word stands behind the first ones
+pub first_words_next : (words : List ℤ) (i : ℕ) (z : ℤ) (firsts new : List ℤ) → i < length words → new ≡ slice_set firsts i z → firsts ≡ first_words (take i words) → z ≡ word_at words i → new ≡ first_words (take (i + 1) words)
+first_words_next words i z firsts new within set are is = set ∙ ap (λ l. slice_set l i z) are ∙ next_word words i z within is
+
+-- the hash of all of them
+pub hash_firsts : (kind : HashKind) (words : List ℤ) (i : ℕ) (firsts : List ℤ) → firsts ≡ first_words (take i words) → length words ≤ i
+    → hash kind (get_or firsts 0 (pos 0)) (get_or firsts 1 (pos 0)) (get_or firsts 2 (pos 0)) ≡ hash_all kind words
+hash_firsts kind words i firsts are past =
+    ap (λ l. hash kind (get_or l 0 (pos 0)) (get_or l 1 (pos 0)) (get_or l 2 (pos 0))) (are ∙ ap first_words (take_all i words past))
+
+-- the arrays in the next argument are touched behind those so far
+pub touch_next : (args : List CheckedExpr) (i : ℕ) (x : CheckedExpr) (old : List Bool) → i < length args → x ≡ get_or args i x
+    → touching (numbered_arrays x) (touching (flat_map (λ (a : List ℕ). a) (map numbered_arrays (take i args))) old)
+    ≡ touching (flat_map (λ (a : List ℕ). a) (map numbered_arrays (take (i + 1) args))) old
+touch_next args i x old within here =
+    let so_far : List ℕ = flat_map (λ (a : List ℕ). a) (map numbered_arrays (take i args)) in
+    sym (ap (λ l. touching (flat_map (λ (a : List ℕ). a) (map numbered_arrays l)) old) (take_more args i x within ∙ ap (λ y. take i args ++ y ∷ []) (sym here))
+    ∙ ap (λ l. touching (flat_map (λ (a : List ℕ). a) l) old) (map-append numbered_arrays (take i args) (x ∷ []))
+    ∙ ap (λ l. touching l old) (flat_map-append (λ (a : List ℕ). a) (map numbered_arrays (take i args)) (numbered_arrays x ∷ []))
+    ∙ ap (λ l. touching (so_far ++ l) old) (append-nil (numbered_arrays x))
+    ∙ fold-append (λ (marks : List Bool) (array : ℕ). slice_set marks array true) old so_far (numbered_arrays x))
 
 -- the word of the expression at a place
 pub word_map : {A : Type 0} (f : CheckedExpr → A → ℤ) (args : List CheckedExpr) (place : ℕ) (x : CheckedExpr) (a : A) → place < length args → x ≡ get_or args place x

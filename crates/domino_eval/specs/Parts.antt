@@ -3,7 +3,7 @@ use Rattle.std.specs.Prelude.{ℕ, ℤ, Bool, true, false, ◌+◌, ◌*◌, Lis
 use Rattle.std.specs.Coded.{Coded, code_by, coded×, coded_list, coded_ℤ}
 use Rattle.domino_tree.specs.contracts.program.Program.{the_row as program_row}
 use Rattle.domino_tree.specs.declared.program.Program.{Program}
-use Rattle.domino_tree.specs.Value.{Store, names_of}
+use Rattle.domino_tree.specs.Value.{Store, names_of, word_at}
 use Rattle.domino_tree.specs.Execution.{State, Does, Choice, touch, exec}
 use Rattle.domino_check.specs.declared.numbered.CheckedStmt.{CheckedStmt}
 use Rattle.domino_check.specs.NumberedMeaning.{Indexing, numbered_step}
@@ -16,6 +16,10 @@ store fields cells = record { fields = fields; cells = cells }
 -- the same, and which arrays are touched
 abbrev pub state : List ℤ → List (List ℤ) → List Bool → State
 state fields cells touched = record { store = store fields cells; touched = touched }
+
+-- the first three words; 0 past them all
+abbrev pub first_words : List ℤ → List ℤ
+first_words words = word_at words 0 ∷ word_at words 1 ∷ word_at words 2 ∷ []
 
 -- the set as a number: bit a for array a
 abbrev pub bits : List Bool → ℕ

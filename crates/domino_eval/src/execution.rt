@@ -4,7 +4,7 @@ ghost use Rattle.domino_tree.specs.Execution.{Does, chosen, at_last, touch, cell
 ghost use Rattle.domino_check.specs.NumberedMeaning.{indexing, set_field, set_cell, numbered_step, numbered_choice, numbered_exec};
 ghost use Rattle.domino_eval.specs.Parts.{store, state, entered};
 
-use crate::value::{mark, place_of, touch_expr, value};
+use crate::value::{mark, place_of, put, value};
 use domino_check::{Checked, CheckedArm, CheckedExpr, CheckedStmt};
 use sqlite_items::Items;
 
@@ -83,8 +83,7 @@ fn run_arm(
     ensures holds { result ≡ (numbered_choice (indexing checked.now) arm.now).holds (store fields.old cells.old) }
     ensures state { state fields.new cells.new touched.new ≡ entered result (numbered_choice (indexing checked.now) arm.now) (state fields.old cells.old touched.old) }
 {
-    touch_expr(touched, &arm.cond);
-    if value(checked, &arm.cond, fields, cells) == 0 {
+    if value(checked, &arm.cond, fields, cells, touched) == 0 {
         return false;
     }
     run_block(checked, arm.body.as_slice(), fields, cells, touched);
@@ -102,8 +101,7 @@ fn set_field(
 )
     ensures { state fields.new cells.now touched.new ≡ set_field (indexing checked.now) field expr.now (state fields.old cells.now touched.old) }
 {
-    touch_expr(touched, expr);
-    let word = value(checked, expr, fields, cells);
+    let word = value(checked, expr, fields, cells, touched);
     put(fields, field as usize, word);
 }
 
@@ -119,19 +117,9 @@ fn set_cell(
     ensures { state fields.now cells.new touched.new ≡ set_cell (indexing checked.now) array expr.now (state fields.now cells.old touched.old) }
 {
     mark(touched, array);
-    touch_expr(touched, expr);
-    let word = value(checked, expr, fields, cells);
+    let word = value(checked, expr, fields, cells, touched);
     let place = place_of(checked, array, fields);
     put_cell(cells, array as usize, place, word);
-}
-
-// Writes a word to a place. Past them all nothing is written.
-fn put(words: &mut [i32], place: usize, word: i32)
-    ensures { words.new ≡ slice_set words.old place word }
-{
-    if place < words.len() {
-        words[place] = word;
-    }
 }
 
 // Writes a word to a cell. Past them all nothing is written.

@@ -1,5 +1,5 @@
 //! The value of an expression in numbers.
-ghost use Rattle.std.specs.Prelude.{◌≡◌, ◌∷◌, [], ℕ, List, ℤ, map, flat_map};
+ghost use Rattle.std.specs.Prelude.{◌≡◌, ◌∷◌, [], ℕ, List, ℤ, map, flat_map, slice_set};
 ghost use Rattle.domino_tree.specs.Value.{Store, word_at, cells_at, picked};
 ghost use Rattle.domino_tree.specs.Execution.{touching};
 ghost use Rattle.domino_check.specs.NumberedMeaning.{indexing, hash_all, plain_value, place, numbered_value, numbered_arrays};
@@ -14,6 +14,15 @@ fn word_at(words: &[i32], place: usize) -> i32
     ensures { result ≡ word_at words.now place }
 {
     words.get(place).copied().unwrap_or(0)
+}
+
+/// Writes a word to a place. Past them all nothing is written.
+pub(crate) fn put(words: &mut [i32], place: usize, word: i32)
+    ensures { words.new ≡ slice_set words.old place word }
+{
+    if place < words.len() {
+        words[place] = word;
+    }
 }
 
 // The first word where the condition is true, else the second.
@@ -96,10 +105,18 @@ pub(crate) fn mark(touched: &mut [bool], array: u32)
     }
 }
 
-// The word of an array's cell that its index names.
-fn cell_value(checked: &Checked, array: u32, fields: &[i32], cells: &[Items<i32>]) -> i32
-    ensures { result ≡ word_at (cells_at cells.now array) (place (indexing checked.now) array fields.now) }
+// The word of an array's cell that its index names. The array is touched.
+fn cell_value(
+    checked: &Checked,
+    array: u32,
+    fields: &[i32],
+    cells: &[Items<i32>],
+    touched: &mut [bool],
+) -> i32
+    ensures value { result ≡ word_at (cells_at cells.now array) (place (indexing checked.now) array fields.now) }
+    ensures touched { touched.new ≡ touching (array ∷ []) touched.old }
 {
+    mark(touched, array);
     let place = place_of(checked, array, fields);
     let array = array as usize;
     if array < cells.len() {
@@ -109,38 +126,61 @@ fn cell_value(checked: &Checked, array: u32, fields: &[i32], cells: &[Items<i32>
     }
 }
 
-/// The value of an expression.
+/// The value of an expression. The arrays in it are touched.
 #[cycle(value)]
 pub(crate) fn value(
     checked: &Checked,
     expr: &CheckedExpr,
     fields: &[i32],
     cells: &[Items<i32>],
+    touched: &mut [bool],
 ) -> i32
-    ensures { result ≡ numbered_value (indexing checked.now) expr.now (store fields.now cells.now) }
+    ensures value { result ≡ numbered_value (indexing checked.now) expr.now (store fields.now cells.now) }
+    ensures touched { touched.new ≡ touching (numbered_arrays expr.now) touched.old }
 {
     match expr {
         CheckedExpr::Number(number) => *number,
         CheckedExpr::Field(field) => word_at(fields, *field as usize),
-        CheckedExpr::Cell(array) => cell_value(checked, *array, fields, cells),
-        CheckedExpr::One(op, a) => apply1(*op, value(checked, a.get(), fields, cells)),
-        CheckedExpr::Two(op, a, b) => apply2(
-            *op,
-            value(checked, a.get(), fields, cells),
-            value(checked, b.get(), fields, cells),
-        ),
-        CheckedExpr::Pick(cond, a, b) => picked(
-            value(checked, cond.get(), fields, cells),
-            value(checked, a.get(), fields, cells),
-            value(checked, b.get(), fields, cells),
-        ),
+        CheckedExpr::Cell(array) => cell_value(checked, *array, fields, cells, touched),
+        CheckedExpr::One(op, a) => apply1(*op, operand(checked, a.get(), fields, cells, touched)),
+        CheckedExpr::Two(op, a, b) => {
+            let left = operand(checked, a.get(), fields, cells, touched);
+            let right = operand(checked, b.get(), fields, cells, touched);
+            apply2(*op, left, right)
+        }
+        CheckedExpr::Pick(cond, a, b) => {
+            let held = operand(checked, cond.get(), fields, cells, touched);
+            let first = operand(checked, a.get(), fields, cells, touched);
+            let second = operand(checked, b.get(), fields, cells, touched);
+            picked(held, first, second)
+        }
         CheckedExpr::Hash(kind, args) => {
-            hash_value(checked, *kind, args.as_slice(), fields, cells)
+            hash_value(checked, *kind, args.as_slice(), fields, cells, touched)
         }
     }
 }
 
-// The hash of the arguments.
+// The value of an operand, without a call where it is a number or a field, as most are.
+#[inline]
+#[cycle(value)]
+fn operand(
+    checked: &Checked,
+    expr: &CheckedExpr,
+    fields: &[i32],
+    cells: &[Items<i32>],
+    touched: &mut [bool],
+) -> i32
+    ensures value { result ≡ numbered_value (indexing checked.now) expr.now (store fields.now cells.now) }
+    ensures touched { touched.new ≡ touching (numbered_arrays expr.now) touched.old }
+{
+    match expr {
+        CheckedExpr::Number(number) => *number,
+        CheckedExpr::Field(field) => word_at(fields, *field as usize),
+        _ => value(checked, expr, fields, cells, touched),
+    }
+}
+
+// The hash of the arguments. The arrays in them are touched.
 #[cycle(value)]
 fn hash_value(
     checked: &Checked,
@@ -148,65 +188,17 @@ fn hash_value(
     args: &[CheckedExpr],
     fields: &[i32],
     cells: &[Items<i32>],
+    touched: &mut [bool],
 ) -> i32
-    ensures { result ≡ hash_all kind (map (λ (a : Store → ℤ). a (store fields.now cells.now)) (map (numbered_value (indexing checked.now)) args.now)) }
+    ensures value { result ≡ hash_all kind (map (λ (a : Store → ℤ). a (store fields.now cells.now)) (map (numbered_value (indexing checked.now)) args.now)) }
+    ensures touched { touched.new ≡ touching (flat_map (λ (a : List ℕ). a) (map numbered_arrays args.now)) touched.old }
 {
-    hash(
-        kind,
-        argument(checked, args, 0, fields, cells),
-        argument(checked, args, 1, fields, cells),
-        argument(checked, args, 2, fields, cells),
-    )
-}
-
-// The value of an argument; 0 past them all.
-#[cycle(value)]
-fn argument(
-    checked: &Checked,
-    args: &[CheckedExpr],
-    place: usize,
-    fields: &[i32],
-    cells: &[Items<i32>],
-) -> i32
-    ensures { result ≡ word_at (map (λ (a : Store → ℤ). a (store fields.now cells.now)) (map (numbered_value (indexing checked.now)) args.now)) place }
-{
-    if place < args.len() {
-        value(checked, &args[place], fields, cells)
-    } else {
-        0
+    let mut words = [0; 3];
+    for (place, arg) in args.iter().enumerate() {
+        let word = operand(checked, arg, fields, cells, touched);
+        put(&mut words, place, word);
     }
-}
-
-/// The arrays in an expression are touched.
-#[cycle(touch_expr)]
-pub(crate) fn touch_expr(touched: &mut [bool], expr: &CheckedExpr)
-    ensures { touched.new ≡ touching (numbered_arrays expr.now) touched.old }
-{
-    match expr {
-        CheckedExpr::Number(_) | CheckedExpr::Field(_) => {}
-        CheckedExpr::Cell(array) => mark(touched, *array),
-        CheckedExpr::One(_, a) => touch_expr(touched, a.get()),
-        CheckedExpr::Two(_, a, b) => {
-            touch_expr(touched, a.get());
-            touch_expr(touched, b.get());
-        }
-        CheckedExpr::Pick(cond, a, b) => {
-            touch_expr(touched, cond.get());
-            touch_expr(touched, a.get());
-            touch_expr(touched, b.get());
-        }
-        CheckedExpr::Hash(_, args) => touch_all(touched, args.as_slice()),
-    }
-}
-
-// The arrays in the arguments are touched.
-#[cycle(touch_expr)]
-fn touch_all(touched: &mut [bool], args: &[CheckedExpr])
-    ensures { touched.new ≡ touching (flat_map (λ (a : List ℕ). a) (map numbered_arrays args.now)) touched.old }
-{
-    for arg in args {
-        touch_expr(touched, arg);
-    }
+    hash(kind, words[0], words[1], words[2])
 }
 
 #[cfg(test)]
@@ -224,17 +216,6 @@ mod tests {
         for (fields, want) in [([3, 17], 7), ([17, 3], 3), ([0, -7], -7)] {
             assert_eq!(rt; plain_value(&index, &fields), want);
         }
-        Ok(())
-    }
-
-    #[test]
-    fn touches_each_array_that_stands_there(rt: HostRuntime) -> Result<(), Fail> {
-        let last = Boxed::new(rt.alloc(), CheckedExpr::Cell(2))?;
-        let first = Boxed::new(rt.alloc(), CheckedExpr::Cell(0))?;
-        let sum = CheckedExpr::Two(Op2::Add, last, first);
-        let mut touched = [false; 3];
-        touch_expr(&mut touched, &sum);
-        assert_eq!(rt; touched, [true, false, true]);
         Ok(())
     }
 }

@@ -1,21 +1,31 @@
 -- The text from a field or a register on.
-use Rattle.std.proofs.Common.{◌≡◌, ◌∙◌, ◌<◌, ◌≤◌, ◌+◌, ◌-◌, ◌*◌, take, arith, codes, decimal, append_assoc, ℕ, zero, suc, ℤ, pos, List, [], ◌∷◌, ◌++◌, length, drop, get_or, Some, refl, sym, ap, add-one, drop-cons}
+use Rattle.std.proofs.Common.{◌≡◌, ◌∙◌, ◌<◌, ◌≤◌, ◌+◌, ◌-◌, ◌*◌, take, arith, ℕ, zero, suc, ℤ, pos, List, [], ◌∷◌, ◌++◌, length, map, drop, get_or, Some, refl, sym, ap, add-one, drop-cons}
+use Rattle.std.specs.Fmt.{signed_decimal}
 use Rattle.std.specs.List.{slice_get}
-use Rattle.capture_io.specs.Rows.{rows}
-use Rattle.std.proofs.lemmas.List.{append-nil, length-map, drop_more}
 use Rattle.std.proofs.lemmas.Option.{get_or_from_slice_get}
+use Rattle.capture_io.specs.Rows.{rows}
+use Rattle.std.proofs.lemmas.List.{length-map, map-append, take_more, drop_more}
 use Rattle.domino_tree.specs.Value.{word_at, cells_at}
 use Rattle.domino_check.specs.declared.numbered.ArrayInfo.{ArrayInfo}
-use Rattle.switch_runner.specs.Report.{field_text, fields_text, packet_line, packet_lines, cell_line, cell_lines, register_lines, HasCells}
+use Rattle.switch_runner.specs.Report.{label, fields_text, packet_line, packet_lines, cell_line, cell_lines, register_lines, HasCells}
 
-both : {A B : Type 0} (f : A → B → List ℕ) (a a' : A) (b b' : B) → a ≡ a' → b ≡ b' → f a b ≡ f a' b'
+both : {A B C : Type 0} (f : A → B → C) (a a' : A) (b b' : B) → a ≡ a' → b ≡ b' → f a b ≡ f a' b'
 both f a a' b b' p q = ap (λ x. f x b) p ∙ ap (f a') q
 
-pub fields_from : (ns : List (List ℕ)) (zs : List ℤ) (i : ℕ) (n : List ℕ) (z d : ℤ) → i < length ns → i < length zs → slice_get ns i ≡ Some n → z ≡ get_or zs i d
-    → fields_text (drop i ns) (drop i zs) ≡ field_text n z ++ fields_text (drop (i + 1) ns) (drop (i + 1) zs)
-fields_from ns zs i n z d h k e f =
-    rw (add-one, drop-cons ns i n, drop-cons zs i d)
-    (ap (λ l. l ++ fields_text (drop (suc i) ns) (drop (suc i) zs)) (both field_text (get_or ns i n) n (get_or zs i d) z (get_or_from_slice_get ns i n n e) (sym f)))
+-- the label of the next field stands behind those so far
+pub label_next : (names : List (List ℕ)) (i : ℕ) (name text : List ℕ) (labels new : List (List ℕ)) → i < length names → slice_get names i ≡ Some name → text ≡ label name → labels ≡ map label (take i names)
+    → new ≡ labels ++ (text ∷ []) → new ≡ map label (take (i + 1) names)
+label_next names i name text labels new h e t so_far is =
+    is
+    ∙ both (λ x y. x ++ (y ∷ [])) labels (map label (take i names)) text (label name) so_far t
+    ∙ sym (ap (map label) (take_more names i name h ∙ ap (λ y. take i names ++ (y ∷ [])) (get_or_from_slice_get names i name name e)) ∙ map-append label (take i names) (name ∷ []))
+
+-- a field and those after it
+pub fields_from : (ls : List (List ℕ)) (zs : List ℤ) (i : ℕ) (l e : List ℕ) (z d : ℤ) → i < length ls → i < length zs → l ≡ get_or ls i e → z ≡ get_or zs i d
+    → fields_text (drop i ls) (drop i zs) ≡ (l ++ signed_decimal z) ++ fields_text (drop (i + 1) ls) (drop (i + 1) zs)
+fields_from ls zs i l e z d h k p q =
+    rw (add-one, drop-cons ls i e, drop-cons zs i d)
+    (ap (λ y. y ++ fields_text (drop (suc i) ls) (drop (suc i) zs)) (both (λ x y. x ++ signed_decimal y) (get_or ls i e) l (get_or zs i d) z (sym p) (sym q)))
 
 -- the lines of a cell and of those after it
 pub cells_from : (info : ArrayInfo) (zs : List ℤ) (i : ℕ) (z : ℤ) → i < length zs → z ≡ word_at zs i
@@ -43,27 +53,20 @@ cells_of_array [] cells a info h e has = absurd (omega arith)
 pub count_of_arrays : (infos : List ArrayInfo) (cells : List (List ℤ)) → HasCells infos cells → length cells ≡ length infos
 count_of_arrays infos cells has = sym (length-map cells (λ (c : List ℤ). length c)) ∙ ap length has ∙ length-map infos (λ (i : ArrayInfo). i.length)
 
--- the parts of a packet's line, as they are put
-pub packet_parts : (names : List (List ℕ)) (t : ℕ) (packet : List ℤ) (digits : List ℕ) → digits ≡ decimal t
-    → packet_line names t packet ≡ (codes "pkt " ++ (digits ++ [])) ++ (fields_text names packet ++ (10 ∷ []))
-packet_parts names t packet digits e =
-    sym (append_assoc (codes "pkt ") (digits ++ []) (fields_text names packet ++ (10 ∷ []))
-    ∙ ap (λ l. codes "pkt " ++ (l ++ (fields_text names packet ++ (10 ∷ [])))) (append-nil digits ∙ e))
-
 -- one row, and the rows after it
 pub rows_from : (count t width : ℕ) (words : List ℤ) → t < count → rows (count - t) width words ≡ take width words ∷ rows (count - (t + 1)) width (drop width words)
 rows_from count t width words h = let e : count - t ≡ suc (count - (t + 1)) = omega arith in rw e refl
 
-packets_after : (names : List (List ℕ)) (count t width : ℕ) (words : List ℤ) → t < count
-    → packet_lines names t (rows (count - t) width words) ≡ packet_line names t (take width words) ++ packet_lines names (t + 1) (rows (count - (t + 1)) width (drop width words))
-packets_after names count t width words h = ap (packet_lines names t) (rows_from count t width words h)
+packets_after : (labels : List (List ℕ)) (count t width : ℕ) (words : List ℤ) → t < count
+    → packet_lines labels t (rows (count - t) width words) ≡ packet_line labels t (take width words) ++ packet_lines labels (t + 1) (rows (count - (t + 1)) width (drop width words))
+packets_after labels count t width words h = ap (packet_lines labels t) (rows_from count t width words h)
 
-pub packets_from : (names : List (List ℕ)) (count t width : ℕ) (words front back : List ℤ) → t < count → width ≡ length names → front ≡ take width words → back ≡ drop width words
-    → packet_lines names t (rows (count - t) (length names) words) ≡ packet_line names t front ++ packet_lines names (t + 1) (rows (count - (t + 1)) (length names) back)
-packets_from names count t width words front back h e f b =
-    packets_after names count t (length names) words h
-    ∙ ap (λ l. packet_line names t l ++ packet_lines names (t + 1) (rows (count - (t + 1)) (length names) (drop (length names) words))) (ap (λ w. take w words) (sym e) ∙ sym f)
-    ∙ ap (λ l. packet_line names t front ++ packet_lines names (t + 1) (rows (count - (t + 1)) (length names) l)) (ap (λ w. drop w words) (sym e) ∙ sym b)
+pub packets_from : (labels : List (List ℕ)) (count t width : ℕ) (words front back : List ℤ) → t < count → width ≡ length labels → front ≡ take width words → back ≡ drop width words
+    → packet_lines labels t (rows (count - t) (length labels) words) ≡ packet_line labels t front ++ packet_lines labels (t + 1) (rows (count - (t + 1)) (length labels) back)
+packets_from labels count t width words front back h e f b =
+    packets_after labels count t (length labels) words h
+    ∙ ap (λ l. packet_line labels t l ++ packet_lines labels (t + 1) (rows (count - (t + 1)) (length labels) (drop (length labels) words))) (ap (λ w. take w words) (sym e) ∙ sym f)
+    ∙ ap (λ l. packet_line labels t front ++ packet_lines labels (t + 1) (rows (count - (t + 1)) (length labels) l)) (ap (λ w. drop w words) (sym e) ∙ sym b)
 
 -- a row fits what is left of the rows
 pub row_fits : (count t width len : ℕ) → t < count → len ≡ (count - t) * width → width ≤ len

@@ -13,7 +13,7 @@ use Rattle.domino_tree.specs.Sequential.{one}
 use Rattle.domino_check.specs.declared.numbered.ArrayInfo.{ArrayInfo}
 use Rattle.domino_check.specs.Infos.{infos_of}
 use Rattle.switch_runner.specs.Causes.{IsAccepted}
-use Rattle.switch_runner.specs.Report.{HasCells, run_text, report}
+use Rattle.switch_runner.specs.Report.{label, HasCells, run_text, report}
 use Rattle.switch_runner.proofs.Lengths.{one-packets, one-cells}
 use Rattle.domino_syntax.specs.ProgramText.{IsProgramText}
 use Rattle.switch_runner.specs.Top.{AreWide}
@@ -50,36 +50,38 @@ packet_count : (p : Program) (hs : List (List ℤ)) → length (one p hs).packet
 packet_count p hs = sym (length-map (one p hs).packets (λ (c : List ℤ). length c)) ∙ ap length (one-packets p hs) ∙ length-map hs (λ (c : List ℤ). length c)
 
 -- the words at the end of a run are those of its packets
-pub words_length : (p : Program) (hs : List (List ℤ)) (fields : List (List ℕ)) (count : ℕ) (words : List ℤ) → AreWide (length p.packet.fields) hs → count ≡ length hs → fields ≡ p.packet.fields
-    → words ≡ flat_map (λ p. p) (one p hs).packets → length words ≡ count * length fields
-words_length p hs fields count words w e f packets =
+pub words_length : (p : Program) (hs : List (List ℤ)) (labels : List (List ℕ)) (count : ℕ) (words : List ℤ) → AreWide (length p.packet.fields) hs → count ≡ length hs → labels ≡ map label p.packet.fields
+    → words ≡ flat_map (λ p. p) (one p hs).packets → length words ≡ count * length labels
+words_length p hs labels count words w e l packets =
     let n : length (one p hs).packets ≡ count = packet_count p hs ∙ sym e in
     ap length packets
     ∙ flat_length (length p.packet.fields) (one p hs).packets (wide_same (length p.packet.fields) (one p hs).packets hs (one-packets p hs) w)
     ∙ ap (λ k. k * length p.packet.fields) n
-    ∙ ap (λ l. count * length l) (sym f)
+    ∙ ap (λ k. count * k) (sym (ap length l ∙ length-map p.packet.fields label))
 
 -- each array has its cells at the end of a run
 pub has_cells : (p : Program) (hs : List (List ℤ)) (infos : List ArrayInfo) (cells : List (List ℤ)) → infos ≡ infos_of p → cells ≡ (one p hs).cells → HasCells infos cells
 has_cells p hs infos cells i at_end = subst (λ (l : List ArrayInfo). HasCells l cells) (sym i) (subst (HasCells (infos_of p)) (sym at_end) (one-cells p hs))
 
 -- what stands at the end of a run is told as its report
-pub text_is : (p : Program) (hs : List (List ℤ)) (fields : List (List ℕ)) (infos : List ArrayInfo) (count : ℕ) (words : List ℤ) (cells : List (List ℤ)) → AreWide (length p.packet.fields) hs
-    → count ≡ length hs → fields ≡ p.packet.fields → infos ≡ infos_of p → words ≡ flat_map (λ p. p) (one p hs).packets → cells ≡ (one p hs).cells
-    → run_text fields infos (rows count (length fields) words) cells count ≡ report p hs
-text_is p hs fields infos count words cells w e f i packets at_end =
+pub text_is : (p : Program) (hs : List (List ℤ)) (labels : List (List ℕ)) (infos : List ArrayInfo) (count : ℕ) (words : List ℤ) (cells : List (List ℤ)) → AreWide (length p.packet.fields) hs
+    → count ≡ length hs → labels ≡ map label p.packet.fields → infos ≡ infos_of p → words ≡ flat_map (λ p. p) (one p hs).packets → cells ≡ (one p hs).cells
+    → run_text labels infos (rows count (length labels) words) cells count ≡ report p hs
+text_is p hs labels infos count words cells w e l i packets at_end =
     let ps : List (List ℤ) = (one p hs).packets in
+    let all : List (List ℕ) = map label p.packet.fields in
     let width : ℕ = length p.packet.fields in
     let n : length ps ≡ count = packet_count p hs ∙ sym e in
     let back : rows count width words ≡ ps =
     ap (rows count width) packets
     ∙ ap (λ k. rows k width (flat_map (λ p. p) ps)) (sym n)
     ∙ rows_back width ps (wide_same width ps hs (one-packets p hs) w) in
-    ap (λ l. run_text l infos (rows count (length l) words) cells count) f
-    ∙ ap (λ l. run_text p.packet.fields infos l cells count) back
-    ∙ ap (λ l. run_text p.packet.fields l ps cells count) i
-    ∙ ap (λ l. run_text p.packet.fields (infos_of p) ps l count) at_end
-    ∙ ap (run_text p.packet.fields (infos_of p) ps (one p hs).cells) e
+    ap (λ x. run_text x infos (rows count (length x) words) cells count) l
+    ∙ ap (λ k. run_text all infos (rows count k words) cells count) (length-map p.packet.fields label)
+    ∙ ap (λ x. run_text all infos x cells count) back
+    ∙ ap (λ x. run_text all x ps cells count) i
+    ∙ ap (λ x. run_text all (infos_of p) ps x count) at_end
+    ∙ ap (run_text all (infos_of p) ps (one p hs).cells) e
 
 -- what was read to one byte past a limit, and is within it, is all that is told
 whole : (limit : ℕ) (bytes : List ℕ) → length (take (limit + 1) bytes) ≤ limit → take (limit + 1) bytes ≡ bytes

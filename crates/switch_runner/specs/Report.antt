@@ -9,24 +9,24 @@ use Rattle.domino_check.specs.Infos.{infos_of}
 
 -- ---- packets
 
--- a space, the field's name, `=` and its value
-abbrev pub field_text : List ℕ → ℤ → List ℕ
-field_text name value = 32 ∷ (name ++ (61 ∷ signed_decimal value))
+-- what stands before a field's value: a space, the field's name and `=`
+abbrev pub label : List ℕ → List ℕ
+label name = 32 ∷ (name ++ (61 ∷ []))
 
--- the fields in order of declaration
+-- the fields in order of declaration, each behind its label
 abbrev pub fields_text : List (List ℕ) → List ℤ → List ℕ
 fields_text [] values = []
-fields_text (n ∷ ns) [] = []
-fields_text (n ∷ ns) (z ∷ zs) = field_text n z ++ fields_text ns zs
+fields_text (l ∷ ls) [] = []
+fields_text (l ∷ ls) (z ∷ zs) = (l ++ signed_decimal z) ++ fields_text ls zs
 
 -- `pkt T`, and the fields
 abbrev pub packet_line : List (List ℕ) → ℕ → List ℤ → List ℕ
-packet_line names t packet = codes "pkt " ++ (decimal t ++ (fields_text names packet ++ (10 ∷ [])))
+packet_line labels t packet = codes "pkt " ++ (decimal t ++ (fields_text labels packet ++ (10 ∷ [])))
 
 -- the packets from arrival t on
 abbrev pub packet_lines : List (List ℕ) → ℕ → List (List ℤ) → List ℕ
-packet_lines names t [] = []
-packet_lines names t (p ∷ ps) = packet_line names t p ++ packet_lines names (t + 1) ps
+packet_lines labels t [] = []
+packet_lines labels t (p ∷ ps) = packet_line labels t p ++ packet_lines labels (t + 1) ps
 
 -- ---- registers
 
@@ -65,8 +65,8 @@ done_line n = codes "done " ++ (decimal n ++ (10 ∷ []))
 
 -- the packets, the registers, and the number of arrivals
 abbrev pub run_text : List (List ℕ) → List ArrayInfo → List (List ℤ) → List (List ℤ) → ℕ → List ℕ
-run_text fields infos packets cells n = packet_lines fields 0 packets ++ (register_lines infos cells ++ done_line n)
+run_text labels infos packets cells n = packet_lines labels 0 packets ++ (register_lines infos cells ++ done_line n)
 
 -- the report of the sequential run over these headers
 abbrev pub report : Program → List (List ℤ) → List ℕ
-report p headers = run_text p.packet.fields (infos_of p) (one p headers).packets (one p headers).cells (length headers)
+report p headers = run_text (map label p.packet.fields) (infos_of p) (one p headers).packets (one p headers).cells (length headers)

@@ -39,6 +39,7 @@ impl Block {
 
     /// Adds a piece, and writes the block first where the piece has no room in it. A piece that is
     /// larger than the block is written by itself. Takes no memory.
+    #[inline]
     pub(crate) fn put<K: Sink>(&mut self, out: &mut K, piece: &[u8]) -> Result<(), Failed>
         ensures { Puts piece.now (at self.old (K.taken out.old) (K.faults out.old))
             (at self.new (K.taken out.new) (K.faults out.new)) result }
@@ -46,6 +47,16 @@ impl Block {
         if self.add(piece) {
             return Ok(());
         }
+        self.put_past(out, piece)
+    }
+
+    // Puts a piece that has no room in the block. It is apart so that `put` is short where it is called.
+    #[cold]
+    #[inline(never)]
+    fn put_past<K: Sink>(&mut self, out: &mut K, piece: &[u8]) -> Result<(), Failed>
+        ensures { Puts piece.now (at self.old (K.taken out.old) (K.faults out.old))
+            (at self.new (K.taken out.new) (K.faults out.new)) result }
+    {
         match self.flush(out) {
             Ok(()) => {}
             Err(failed) => return Err(failed),
@@ -73,6 +84,7 @@ impl Block {
     }
 
     // Adds a piece where there is room for it, and says whether there was.
+    #[inline]
     fn add(&mut self, piece: &[u8]) -> bool
         ensures added { OnTrue result (self.new ≡ self.old ++ piece.now) }
         ensures kept { OnFalse result (self.new ≡ self.old) }

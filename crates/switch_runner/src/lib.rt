@@ -10,6 +10,7 @@ mod command_line;
 mod edge;
 mod fabric;
 mod help;
+mod labels;
 mod line;
 mod memory;
 mod outside;

@@ -7,14 +7,15 @@ ghost use Rattle.domino_tree.specs.Value.{cells_at};
 ghost use Rattle.switch_runner.specs.Outside.{TookFront, gained};
 ghost use Rattle.switch_runner.specs.Faults.{WriteCause};
 ghost use Rattle.switch_runner.specs.Writing.{Puts, at};
-ghost use Rattle.switch_runner.specs.Report.{field_text, fields_text, packet_line, packet_lines, register_line, cell_line, cell_lines, register_lines, HasCells, done_line, run_text};
+ghost use Rattle.switch_runner.specs.Report.{fields_text, packet_line, packet_lines, register_line, cell_line, cell_lines, register_lines, HasCells, done_line, run_text};
 
 use crate::block::Block;
 use crate::outside::{Failed, Sink};
 use domino_check::ArrayInfo;
 use domino_eval::Bench;
 use itoa::Buffer;
-use mp5_words::{FieldNames, Name};
+use mp5_words::Name;
+use sqlite_items::Items;
 
 // Puts pieces one after another.
 fn put_all<K: Sink>(block: &mut Block, out: &mut K, pieces: &[&[u8]]) -> Result<(), Failed>
@@ -30,33 +31,34 @@ fn put_all<K: Sink>(block: &mut Block, out: &mut K, pieces: &[&[u8]]) -> Result<
     Ok(())
 }
 
-// A space, the field's name, `=` and its value.
-fn put_field<K: Sink>(block: &mut Block, out: &mut K, name: &Name, value: i32) -> Result<(), Failed>
-    ensures { Puts (field_text name.now value)
+// A field: its label and its value.
+fn put_field<K: Sink>(
+    block: &mut Block,
+    out: &mut K,
+    label: &[u8],
+    value: i32,
+) -> Result<(), Failed>
+    ensures { Puts (label.now ++ signed_decimal value)
         (at block.old (K.taken out.old) (K.faults out.old)) (at block.new (K.taken out.new) (K.faults out.new)) result }
 {
     let mut digits = Buffer::new();
-    put_all(
-        block,
-        out,
-        &[b" ", name.bytes(), b"=", digits.format(value).as_bytes()],
-    )
+    block.put(out, label)?;
+    block.put(out, digits.format(value).as_bytes())
 }
 
 // The fields in order of declaration.
 fn put_fields<K: Sink>(
     block: &mut Block,
     out: &mut K,
-    names: &FieldNames,
+    labels: &[Items<u8>],
     values: &[i32],
 ) -> Result<(), Failed>
-    requires { length values.now ≡ length names.now }
-    ensures { Puts (fields_text names.now values.now)
+    requires { length values.now ≡ length labels.now }
+    ensures { Puts (fields_text labels.now values.now)
         (at block.old (K.taken out.old) (K.faults out.old)) (at block.new (K.taken out.new) (K.faults out.new)) result }
 {
-    for i in 0..names.count() {
-        let value = values[i as usize];
-        match put_field(block, out, names.name(i), value) {
+    for (i, label) in labels.iter().enumerate() {
+        match put_field(block, out, label.as_slice(), values[i]) {
             Ok(()) => {}
             Err(failed) => return Err(failed),
         }
@@ -69,16 +71,17 @@ fn put_packet<K: Sink>(
     block: &mut Block,
     out: &mut K,
     t: u32,
-    names: &FieldNames,
+    labels: &[Items<u8>],
     packet: &[i32],
 ) -> Result<(), Failed>
-    requires { length packet.now ≡ length names.now }
-    ensures { Puts (packet_line names.now t packet.now)
+    requires { length packet.now ≡ length labels.now }
+    ensures { Puts (packet_line labels.now t packet.now)
         (at block.old (K.taken out.old) (K.faults out.old)) (at block.new (K.taken out.new) (K.faults out.new)) result }
 {
     let mut digits = Buffer::new();
-    put_all(block, out, &[b"pkt ", digits.format(t).as_bytes()])?;
-    put_fields(block, out, names, packet)?;
+    block.put(out, b"pkt ")?;
+    block.put(out, digits.format(t).as_bytes())?;
+    put_fields(block, out, labels, packet)?;
     block.put(out, b"\n")
 }
 
@@ -87,18 +90,18 @@ fn put_packets<K: Sink>(
     block: &mut Block,
     out: &mut K,
     count: u32,
-    names: &FieldNames,
+    labels: &[Items<u8>],
     packets: &[i32],
 ) -> Result<(), Failed>
-    requires { length packets.now ≡ count * length names.now }
-    ensures { Puts (packet_lines names.now 0 (rows count (length names.now) packets.now))
+    requires { length packets.now ≡ count * length labels.now }
+    ensures { Puts (packet_lines labels.now 0 (rows count (length labels.now) packets.now))
         (at block.old (K.taken out.old) (K.faults out.old)) (at block.new (K.taken out.new) (K.faults out.new)) result }
 {
-    let width = names.count() as usize;
+    let width = labels.len();
     let mut rest = packets;
     for t in 0..count {
         let (packet, later) = rest.split_at(width);
-        match put_packet(block, out, t, names, packet) {
+        match put_packet(block, out, t, labels, packet) {
             Ok(()) => {}
             Err(failed) => return Err(failed),
         }
@@ -240,45 +243,45 @@ fn put_report<K: Sink>(
     block: &mut Block,
     out: &mut K,
     count: u32,
-    fields: &FieldNames,
+    labels: &[Items<u8>],
     packets: &[i32],
     infos: &[ArrayInfo],
     bench: &Bench<'_>,
 ) -> Result<(), Failed>
-    requires packets { length packets.now ≡ count * length fields.now }
+    requires packets { length packets.now ≡ count * length labels.now }
     requires few { length infos.now ≤ 16 }
     requires cells { HasCells infos.now bench.now.cells }
-    ensures { Puts (run_text fields.now infos.now (rows count (length fields.now) packets.now) bench.now.cells count)
+    ensures { Puts (run_text labels.now infos.now (rows count (length labels.now) packets.now) bench.now.cells count)
         (at block.old (K.taken out.old) (K.faults out.old)) (at block.new (K.taken out.new) (K.faults out.new)) result }
 {
-    put_packets(block, out, count, fields, packets)?;
+    put_packets(block, out, count, labels, packets)?;
     put_arrays(block, out, infos, bench)?;
     put_done(block, out, count)
 }
 
-/// Writes the report of a run: the packets, which stand one after another in one list of words, the cells
-/// that differ from their start values, and the number of arrivals. It goes out in blocks, and takes no
+/// Writes the report of a run: the packets, which stand one after another in one list of words, each of their
+/// fields behind its label, the cells that differ from their start values, and the number of arrivals. It goes out in blocks, and takes no
 /// memory.
 pub(crate) fn write_report<K: Sink>(
     block: Block,
     out: &mut K,
     count: u32,
-    fields: &FieldNames,
+    labels: &[Items<u8>],
     packets: &[i32],
     infos: &[ArrayInfo],
     bench: &Bench<'_>,
 ) -> Result<(), Failed>
     requires empty { block ≡ [] }
-    requires packets { length packets.now ≡ count * length fields.now }
+    requires packets { length packets.now ≡ count * length labels.now }
     requires few { length infos.now ≤ 16 }
     requires cells { HasCells infos.now bench.now.cells }
     ensures ok { OnOk result
-        (K.taken out.new ≡ gained (run_text fields.now infos.now (rows count (length fields.now) packets.now) bench.now.cells count) (K.taken out.old)) }
+        (K.taken out.new ≡ gained (run_text labels.now infos.now (rows count (length labels.now) packets.now) bench.now.cells count) (K.taken out.old)) }
     ensures err { OnErr result
-        (TookFront (K.taken out.old) (K.taken out.new) (run_text fields.now infos.now (rows count (length fields.now) packets.now) bench.now.cells count)) }
+        (TookFront (K.taken out.old) (K.taken out.new) (run_text labels.now infos.now (rows count (length labels.now) packets.now) bench.now.cells count)) }
     ensures cause { WriteCause (K.faults out.old) (K.faults out.new) result }
 {
     let mut block = block;
-    put_report(&mut block, out, count, fields, packets, infos, bench)?;
+    put_report(&mut block, out, count, labels, packets, infos, bench)?;
     block.flush(out)
 }

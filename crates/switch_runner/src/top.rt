@@ -12,6 +12,7 @@ ghost use Rattle.switch_runner.specs.Top.{AreWide, NoSource, NoHeaders, Ends, is
 use crate::block::Block;
 use crate::command_line::asked;
 use crate::fabric::Fabric;
+use crate::labels::labels_of;
 use crate::line::write_line;
 use crate::outside::{Failed, Sink, Store, StoreFault};
 use crate::report::write_report;
@@ -221,6 +222,9 @@ fn run_and_report<K: Sink>(
     let Ok(end) = run_one(alloc, checked, headers) else {
         return Status::NoMemory;
     };
+    let Ok(labels) = labels_of(alloc, checked.field_names()) else {
+        return Status::NoMemory;
+    };
     let Ok(block) = Block::new(alloc) else {
         return Status::NoMemory;
     };
@@ -228,7 +232,7 @@ fn run_and_report<K: Sink>(
         block,
         out,
         headers.count(),
-        checked.field_names(),
+        &labels,
         &end.packets,
         checked.arrays(),
         &end.bench,

@@ -1,4 +1,4 @@
-use Rattle.std.proofs.Common.{◌≡◌, rules, FitsSigned, w32, sym, ap, ◌∙◌, map}
+use Rattle.std.proofs.Common.{◌≡◌, rules, FitsSigned, w32, sym, ap, ◌∙◌}
 use Rattle.std.proofs.lemmas.Int.{to_z-of_z}
 use Rattle.domino_check.specs.declared.numbered.CheckedExpr.TheVariants as e
 use Rattle.domino_check.specs.NumberedMeaning.{plain_value}

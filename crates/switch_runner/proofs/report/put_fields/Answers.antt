@@ -1,22 +1,19 @@
-use Rattle.std.proofs.Common.{get_or, pos, arith, rules, w32, FitsSigned}
+use Rattle.std.proofs.Common.{◌∙◌, get_or, pos, arith, rules, w32, FitsSigned}
 use Rattle.std.proofs.lemmas.Int.{to_z-of_z}
 use Rattle.switch_runner.proofs.ReportLemmas.{fields_from}
-use Rattle.switch_runner.proofs.WritingLemmas.{goes_start, goes_on, goes_broken}
+use Rattle.switch_runner.proofs.WritingLemmas.{goes_on, goes_broken}
 use Rattle.switch_runner.proofs.report.put_fields.Goals as goal
 
 pub returns-in-Err : goal.returns-in-Err
 returns-in-Err g c =
     let fits : FitsSigned w32 (get_or c.args.values.now c.loop-i.i (pos 0)) = search rules in
     goes_broken _ _ _ _ _ _ _
-    (fields_from c.args.names.now c.args.values.now c.loop-i.i _ _ (pos 0) (omega (arith, c.count-i-end.ensures.count, c.loop-i-test.true)) (omega (arith, c.count-i-end.ensures.count, c.requires, c.loop-i-test.true)) c.name.ensures (to_z-of_z w32 _ fits))
+    (fields_from c.args.labels.now c.args.values.now c.loop-i.i _ _ _ (pos 0) c.loop-i-test.true (omega (arith, c.requires, c.loop-i-test.true)) (c.as_slice.ensures ∙ c.index-labels-i.is) (to_z-of_z w32 _ fits))
     c.loop-i.invariant c.in-Err.ensures
 
 pub loop-i-preserved : goal.loop-i-preserved
 loop-i-preserved g c =
     let fits : FitsSigned w32 (get_or c.args.values.now c.loop-i.i (pos 0)) = search rules in
     goes_on _ _ _ _ _ _ _
-    (fields_from c.args.names.now c.args.values.now c.loop-i.i _ _ (pos 0) (omega (arith, c.count-i-end.ensures.count, c.loop-i-test.true)) (omega (arith, c.count-i-end.ensures.count, c.requires, c.loop-i-test.true)) c.name.ensures (to_z-of_z w32 _ fits))
+    (fields_from c.args.labels.now c.args.values.now c.loop-i.i _ _ _ (pos 0) c.loop-i-test.true (omega (arith, c.requires, c.loop-i-test.true)) (c.as_slice.ensures ∙ c.index-labels-i.is) (to_z-of_z w32 _ fits))
     c.loop-i.invariant c.in-Ok.ensures
-
-pub loop-i-init : goal.loop-i-init
-loop-i-init g c = goes_start _ _

@@ -1,4 +1,4 @@
-use Rattle.std.proofs.Common.{◌≡◌, ◌∙◌, ◌-◌, ◌+◌, length, sym, ap, arith}
+use Rattle.std.proofs.Common.{◌≡◌, ◌-◌, length, refl, arith}
 use Rattle.switch_runner.proofs.ReportLemmas.{packets_from, row_left}
 use Rattle.switch_runner.proofs.WritingLemmas.{goes_start, goes_on, goes_broken}
 use Rattle.switch_runner.proofs.report.put_packets.Goals as goal
@@ -9,16 +9,16 @@ loop-t-init g c = let e : c.args.count - 0 ≡ c.args.count = omega arith in rw 
 pub returns-in-Err : goal.returns-in-Err
 returns-in-Err g c =
     goes_broken _ _ _ _ _ _ _
-    (packets_from c.args.names.now c.args.count c.loop-t.t c.count-width.result c.loop-t.rest.now c.split_at.result.0.now c.split_at.result.1.now
-    c.loop-t-test.true c.count-width.ensures.count c.split_at.ensures.front c.split_at.ensures.back)
+    (packets_from c.args.labels.now c.args.count c.loop-t.t (length c.args.labels.now) c.loop-t.rest.now c.split_at.result.0.now c.split_at.result.1.now
+    c.loop-t-test.true refl c.split_at.ensures.front c.split_at.ensures.back)
     c.loop-t.invariant.1 c.in-Err.ensures
 
 pub loop-t-preserved : goal.loop-t-preserved
 loop-t-preserved g c = (
-  row_left c.args.count c.loop-t.t (length c.args.names.now) (length c.loop-t.rest.now) (length c.split_at.result.1.now) c.loop-t-test.true c.loop-t.invariant.0
-      (ap (λ n. length c.split_at.result.1.now + n) (sym c.count-width.ensures.count) ∙ c.split_at.ensures.back_len),
+  row_left c.args.count c.loop-t.t (length c.args.labels.now) (length c.loop-t.rest.now) (length c.split_at.result.1.now) c.loop-t-test.true c.loop-t.invariant.0
+      c.split_at.ensures.back_len,
   goes_on _ _ _ _ _ _ _
-      (packets_from c.args.names.now c.args.count c.loop-t.t c.count-width.result c.loop-t.rest.now c.split_at.result.0.now c.split_at.result.1.now
-      c.loop-t-test.true c.count-width.ensures.count c.split_at.ensures.front c.split_at.ensures.back)
+      (packets_from c.args.labels.now c.args.count c.loop-t.t (length c.args.labels.now) c.loop-t.rest.now c.split_at.result.0.now c.split_at.result.1.now
+      c.loop-t-test.true refl c.split_at.ensures.front c.split_at.ensures.back)
       c.loop-t.invariant.1 c.in-Ok.ensures,
 )

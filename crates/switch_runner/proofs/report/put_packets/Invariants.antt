@@ -8,7 +8,7 @@ use Rattle.switch_runner.proofs.report.put_packets.Given as goal
 -- the packets before this one are put, and the rest is that of the packets from this one on
 abbrev pub invariant-loop-t : goal.invariant-loop-t
 invariant-loop-t g l =
-    (length l.rest ≡ (l.count - l.t) * length l.names)
-    × Goes (packet_lines l.names 0 (rows l.count (length l.names) l.packets)) (packet_lines l.names l.t (rows (l.count - l.t) (length l.names) l.rest))
+    (length l.rest ≡ (l.count - l.t) * length l.labels)
+    × Goes (packet_lines l.labels 0 (rows l.count (length l.labels) l.packets)) (packet_lines l.labels l.t (rows (l.count - l.t) (length l.labels) l.rest))
     (at l.initial.block (g.K.Sink.taken l.initial.out) (g.K.Sink.faults l.initial.out))
     (at l.block (g.K.Sink.taken l.out) (g.K.Sink.faults l.out))
