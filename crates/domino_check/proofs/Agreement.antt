@@ -9,8 +9,9 @@ use Rattle.domino_tree.specs.declared.program.Target.TheVariants as target
 use Rattle.domino_tree.specs.declared.program.Stmt.{Stmt}
 use Rattle.domino_tree.specs.declared.program.Arm.{Arm}
 use Rattle.domino_tree.specs.declared.program.Program.{Program}
-use Rattle.domino_tree.specs.Value.{Names, names_of, Store, number_of, array_number, field_number, array_length, hash_kind, hashed, picked, value, arrays_in, array_word, defined_or, cell_at, cells_at, word_at, index_place}
-use Rattle.domino_tree.specs.Execution.{State, Does, Choice, touching, touch, cell_set, set_target, in_turn, at_last, chosen, step, choice, exec}
+use Rattle.domino_tree.specs.Value.{Names, names_of, Store, number_of, array_number, field_number, array_length, hash_kind, hashed, value, arrays_in, array_word, defined_or, cell_at, index_place}
+use Rattle.mp5_words.specs.Cells.{picked, cells_at, word_at, touching, cell_set, hash_all}
+use Rattle.domino_tree.specs.Execution.{State, Does, Choice, touch, set_target, in_turn, at_last, chosen, step, choice, exec}
 use Rattle.domino_tree.proofs.ValueLemmas as named
 use Rattle.domino_tree.proofs.ExecutionLemmas as executed
 use Rattle.domino_tree.proofs.ExprLemmas.{Each, induct}
@@ -22,7 +23,7 @@ use Rattle.domino_check.specs.declared.numbering.Access.{Access}
 use Rattle.domino_check.specs.Numbering as numbers
 use Rattle.domino_check.specs.Numbering.{Numbered, in_numbers, numbered, accesses_in, plain_index, access_at, register_at, numbered_word, numbered_call, numbered_set, numbered_stmt, numbered_arm, target_accesses, stmt_accesses, arm_accesses, block_accesses, numbered_body}
 use Rattle.domino_check.specs.Indexes.{Keeps, AllKeep, HasIndexes}
-use Rattle.domino_check.specs.NumberedMeaning.{Indexing, indexing, hash_all, plain_value, named_place, place, numbered_value, numbered_arrays, numbered_step, numbered_choice, numbered_exec}
+use Rattle.domino_check.specs.NumberedMeaning.{Indexing, indexing, plain_value, named_place, place, numbered_value, numbered_arrays, numbered_step, numbered_choice, numbered_exec}
 use Rattle.domino_check.proofs.NumberingLemmas as numbering
 use Rattle.domino_check.proofs.MeaningLemmas as meaning
 

@@ -4,7 +4,8 @@ use Rattle.mp5_words.specs.declared.op.Op1.{Op1}
 use Rattle.mp5_words.specs.declared.op.Op2.{Op2}
 use Rattle.mp5_words.specs.declared.hashing.HashKind.{HashKind}
 use Rattle.mp5_words.specs.Words.{op1, op2, truth}
-use Rattle.domino_tree.specs.Value.{Store, word_at, cells_at, picked}
+use Rattle.domino_tree.specs.Value.{Store}
+use Rattle.mp5_words.specs.Cells.{word_at, cells_at, picked, hash_all}
 use Rattle.domino_tree.specs.Execution.{State, Does, Choice, chosen, in_turn}
 use Rattle.domino_check.specs.declared.numbered.CheckedExpr.{CheckedExpr, fold-roll-CheckedExpr}
 use Rattle.domino_check.specs.declared.numbered.CheckedExpr.TheOpen as F
@@ -13,7 +14,7 @@ use Rattle.domino_check.specs.declared.numbered.CheckedStmt.{CheckedStmt, fold-r
 use Rattle.domino_check.specs.declared.numbered.CheckedStmt.TheOpen as O
 use Rattle.domino_check.specs.declared.numbered.CheckedStmt.TheVariants as s
 use Rattle.domino_check.specs.declared.numbered.CheckedArm.{CheckedArm, fold-roll-CheckedArm}
-use Rattle.domino_check.specs.NumberedMeaning.{Indexing, hash_all, plain_meaning, plain_value, place, numbered_meaning, numbered_value, numbered_mentioning, numbered_arrays, set_field, set_cell, numbered_doing, numbered_choosing, numbered_step, numbered_choice}
+use Rattle.domino_check.specs.NumberedMeaning.{Indexing, plain_meaning, plain_value, place, numbered_meaning, numbered_value, numbered_mentioning, numbered_arrays, set_field, set_cell, numbered_doing, numbered_choosing, numbered_step, numbered_choice}
 
 -- ---- the value on the fields alone
 

@@ -4,7 +4,8 @@ use Rattle.std.proofs.lemmas.Bool.{ltb-false}
 use Rattle.domino_tree.specs.declared.program.Item.{Item}
 use Rattle.domino_tree.specs.declared.program.Item.TheVariants as item
 use Rattle.domino_tree.specs.declared.program.Program.{Program}
-use Rattle.domino_tree.specs.Value.{Defined, Array, names_of, natural, size_value}
+use Rattle.domino_tree.specs.Value.{Defined, Array, names_of, size_value}
+use Rattle.mp5_words.specs.Cells.{natural}
 use Rattle.domino_check.specs.declared.fault.CheckFault.TheVariants as fault
 use Rattle.domino_check.specs.declared.fault.What.TheVariants as what
 use Rattle.domino_check.specs.declared.numbered.ArrayInfo.{ArrayInfo}

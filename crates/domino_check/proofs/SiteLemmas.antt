@@ -4,7 +4,7 @@ use Rattle.std.specs.List.{fold}
 use Rattle.std.proofs.lemmas.List.{take_more}
 use Rattle.std.proofs.lemmas.Bool.{false≢true}
 use Rattle.domino_tree.specs.Value.{Array}
-use Rattle.domino_tree.specs.Execution.{touching}
+use Rattle.mp5_words.specs.Cells.{touching}
 use Rattle.domino_check.specs.declared.fault.CheckFault.{CheckFault}
 use Rattle.domino_check.specs.declared.fault.CheckFault.TheVariants as fault
 use Rattle.domino_check.specs.declared.numbered.CheckedExpr.{CheckedExpr}

@@ -2,11 +2,11 @@
 -- the execution of statements.
 use Rattle.std.specs.Prelude.{ℕ, ℤ, pos, List, [], ◌∷◌, ◌++◌, map, flat_map, Option, Some, None, slice_set}
 use Rattle.std.specs.List.{slice_index_or}
-use Rattle.mp5_words.specs.Words.{op1, op2, truth, hash, cell}
-use Rattle.mp5_words.specs.declared.hashing.HashKind.{HashKind}
+use Rattle.mp5_words.specs.Words.{op1, op2, truth, cell}
+use Rattle.mp5_words.specs.Cells.{word_at, cells_at, cell_set, picked, hash_all, touching}
 use Rattle.domino_tree.specs.declared.program.Program.{Program}
-use Rattle.domino_tree.specs.Value.{Array, Store, names_of, word_at, cells_at, picked}
-use Rattle.domino_tree.specs.Execution.{Does, Choice, touching, cell_set, in_turn, chosen}
+use Rattle.domino_tree.specs.Value.{Array, Store, names_of}
+use Rattle.domino_tree.specs.Execution.{Does, Choice, in_turn, chosen}
 use Rattle.domino_check.specs.declared.numbered.CheckedExpr.{CheckedExpr, fold-CheckedExpr}
 use Rattle.domino_check.specs.declared.numbered.CheckedExpr.TheOpen.{CheckedExpr-F}
 use Rattle.domino_check.specs.declared.numbered.CheckedStmt.{CheckedStmt, fold-CheckedStmt}
@@ -26,10 +26,6 @@ indexing p = record {
   index = index_of (accesses p);
   length = λ array. slice_index_or (map (λ (d : Array). d.length) (names_of p).arrays) array 1;
 }
-
--- the hash of the arguments
-abbrev pub hash_all : HashKind → List ℤ → ℤ
-hash_all kind args = hash kind (word_at args 0) (word_at args 1) (word_at args 2)
 
 -- ---- the value of an index, in which no array stands
 

@@ -1,7 +1,7 @@
 //! The assignments and conditions of a body in numbers.
 ghost use Rattle.std.specs.Prelude.{◌≡◌, ◌≢◌, ◌++◌, ◌∷◌, [], length, map, flat_map, OnOk, IfOk, IfErr, MatchOption, Some, None, ◌<◌, false};
 ghost use Rattle.std.specs.List.{list_any, slice_index_or};
-ghost use Rattle.domino_tree.specs.Execution.{touching};
+ghost use Rattle.mp5_words.specs.Cells.{touching};
 ghost use Rattle.domino_check.specs.declared.fault.CheckFault.TheVariants as fault;
 ghost use Rattle.domino_check.specs.First.{FirstFault, NoFault};
 ghost use Rattle.domino_check.specs.Indexes.{array_name};

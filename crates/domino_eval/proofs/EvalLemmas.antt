@@ -8,8 +8,9 @@ use Rattle.std.specs.Int.{from_bool}
 use Rattle.mp5_words.specs.Words.{cell, hash}
 use Rattle.mp5_words.specs.declared.hashing.HashKind.{HashKind}
 use Rattle.domino_tree.specs.declared.program.Program.{Program}
-use Rattle.domino_tree.specs.Value.{Array, names_of, word_at}
-use Rattle.domino_tree.specs.Execution.{State, Does, Choice, touching, touch, at_last, chosen}
+use Rattle.domino_tree.specs.Value.{Array, names_of}
+use Rattle.mp5_words.specs.Cells.{word_at, touching, hash_all, bits}
+use Rattle.domino_tree.specs.Execution.{State, Does, Choice, touch, at_last, chosen}
 use Rattle.domino_tree.specs.Sequential.{start_cells, untouched}
 use Rattle.domino_check.specs.declared.numbered.CheckedStmt.{CheckedStmt}
 use Rattle.domino_check.specs.declared.numbered.CheckedStmt.TheVariants as s
@@ -20,9 +21,9 @@ use Rattle.domino_check.specs.Infos.{infos_of, array_of}
 use Rattle.domino_check.specs.Numbering.{accesses, numbered_body}
 use Rattle.domino_check.specs.Indexes.{index_of, HasIndexes}
 use Rattle.domino_check.specs.Accepted.{AreSized}
-use Rattle.domino_check.specs.NumberedMeaning.{Indexing, indexing, hash_all, numbered_arrays, plain_value, named_place, place, numbered_step, numbered_choice, numbered_exec}
+use Rattle.domino_check.specs.NumberedMeaning.{Indexing, indexing, numbered_arrays, plain_value, named_place, place, numbered_step, numbered_choice, numbered_exec}
 use Rattle.domino_check.proofs.MeaningLemmas.{step-If, step-Else}
-use Rattle.domino_eval.specs.Parts.{first_words, state, entered, last_does, bits, Held, executed}
+use Rattle.domino_eval.specs.Parts.{first_words, state, entered, last_does, Held, executed}
 use Rattle.domino_check.proofs.Agreement.{agreement}
 use Rattle.domino_check.proofs.CheckedLemmas.{infos_are, length-infos}
 

@@ -1,9 +1,10 @@
 -- What a bench holds, and a state put together from its parts.
-use Rattle.std.specs.Prelude.{ℕ, ℤ, Bool, true, false, ◌+◌, ◌*◌, List, [], ◌∷◌, map, Option, Some, None, refl}
+use Rattle.std.specs.Prelude.{ℤ, Bool, true, false, List, [], ◌∷◌, map, Option, Some, None, refl}
 use Rattle.std.specs.Coded.{Coded, code_by, coded×, coded_list, coded_ℤ}
 use Rattle.domino_tree.specs.contracts.program.Program.{the_row as program_row}
 use Rattle.domino_tree.specs.declared.program.Program.{Program}
-use Rattle.domino_tree.specs.Value.{Store, names_of, word_at}
+use Rattle.domino_tree.specs.Value.{Store, names_of}
+use Rattle.mp5_words.specs.Cells.{word_at}
 use Rattle.domino_tree.specs.Execution.{State, Does, Choice, touch, exec}
 use Rattle.domino_check.specs.declared.numbered.CheckedStmt.{CheckedStmt}
 use Rattle.domino_check.specs.NumberedMeaning.{Indexing, numbered_step}
@@ -20,12 +21,6 @@ state fields cells touched = record { store = store fields cells; touched = touc
 -- the first three words; 0 past them all
 abbrev pub first_words : List ℤ → List ℤ
 first_words words = word_at words 0 ∷ word_at words 1 ∷ word_at words 2 ∷ []
-
--- the set as a number: bit a for array a
-abbrev pub bits : List Bool → ℕ
-bits [] = 0
-bits (true ∷ marks) = 1 + 2 * bits marks
-bits (false ∷ marks) = 2 * bits marks
 
 -- what the last block of a chain does, where there is one
 abbrev pub last_does : Indexing → Option (List CheckedStmt) → Option (List Does)

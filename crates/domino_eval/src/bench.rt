@@ -1,7 +1,8 @@
 ghost use Rattle.std.specs.Prelude.{◌≡◌, ◌<◌, ◌≤◌, length, IfOk};
-ghost use Rattle.domino_tree.specs.Value.{names_of, word_at, cells_at};
+ghost use Rattle.domino_tree.specs.Value.{names_of};
+ghost use Rattle.mp5_words.specs.Cells.{word_at, cells_at, bits};
 ghost use Rattle.domino_tree.specs.Sequential.{start_cells};
-ghost use Rattle.domino_eval.specs.Parts.{bits, executed};
+ghost use Rattle.domino_eval.specs.Parts.{executed};
 
 use crate::execution::run_block;
 use domino_check::Checked;

@@ -1,6 +1,7 @@
 //! The execution of statements in numbers.
 ghost use Rattle.std.specs.Prelude.{◌≡◌, List, Option, if◌then◌else◌, slice_set, map};
-ghost use Rattle.domino_tree.specs.Execution.{Does, chosen, at_last, touch, cell_set};
+ghost use Rattle.domino_tree.specs.Execution.{Does, chosen, at_last, touch};
+ghost use Rattle.mp5_words.specs.Cells.{cell_set};
 ghost use Rattle.domino_check.specs.NumberedMeaning.{indexing, set_field, set_cell, numbered_step, numbered_choice, numbered_exec};
 ghost use Rattle.domino_eval.specs.Parts.{store, state, entered};
 

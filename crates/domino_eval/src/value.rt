@@ -1,8 +1,8 @@
 //! The value of an expression in numbers.
 ghost use Rattle.std.specs.Prelude.{◌≡◌, ◌∷◌, [], ℕ, List, ℤ, map, flat_map, slice_set};
-ghost use Rattle.domino_tree.specs.Value.{Store, word_at, cells_at, picked};
-ghost use Rattle.domino_tree.specs.Execution.{touching};
-ghost use Rattle.domino_check.specs.NumberedMeaning.{indexing, hash_all, plain_value, place, numbered_value, numbered_arrays};
+ghost use Rattle.domino_tree.specs.Value.{Store};
+ghost use Rattle.mp5_words.specs.Cells.{word_at, cells_at, picked, touching, hash_all};
+ghost use Rattle.domino_check.specs.NumberedMeaning.{indexing, plain_value, place, numbered_value, numbered_arrays};
 ghost use Rattle.domino_eval.specs.Parts.{store};
 
 use domino_check::{Checked, CheckedExpr};

@@ -6,8 +6,9 @@ use Rattle.domino_tree.specs.declared.program.Target.{Target}
 use Rattle.domino_tree.specs.declared.program.Target.TheVariants as target
 use Rattle.domino_tree.specs.declared.program.Stmt.{Stmt}
 use Rattle.domino_tree.specs.declared.program.Arm.{Arm}
+use Rattle.mp5_words.specs.Cells.{cell_set}
 use Rattle.domino_tree.specs.Value.{Names, Array, Store, HasCells, value, array_number, field_number, index_place}
-use Rattle.domino_tree.specs.Execution.{State, Does, Choice, cell_set, set_target, in_turn, at_last, touch, chosen, step, choice, exec}
+use Rattle.domino_tree.specs.Execution.{State, Does, Choice, set_target, in_turn, at_last, touch, chosen, step, choice, exec}
 use Rattle.domino_tree.specs.Sequential.{start_cells}
 use Rattle.domino_tree.proofs.ExecutionLemmas as executed
 use Rattle.domino_tree.proofs.ExprLemmas.{Each}

@@ -6,7 +6,8 @@ use Rattle.mp5_words.specs.Words.{op1, op2}
 use Rattle.domino_tree.specs.declared.expr.Expr.{Expr, fold-roll-Expr}
 use Rattle.domino_tree.specs.declared.expr.Expr.TheOpen as F
 use Rattle.domino_tree.specs.declared.expr.Expr.TheVariants as e
-use Rattle.domino_tree.specs.Value.{Names, Store, defined_or, number_of, array_number, field_number, index_place, cell_at, word_at, hash_kind, hashed, picked, meaning, value, array_word, mentioning, arrays_in}
+use Rattle.domino_tree.specs.Value.{Names, Store, defined_or, number_of, array_number, field_number, index_place, cell_at, hash_kind, hashed, meaning, value, array_word, mentioning, arrays_in}
+use Rattle.mp5_words.specs.Cells.{word_at, picked}
 
 -- ---- values
 

@@ -1,15 +1,15 @@
 -- The execution of a transaction on one packet: the fields after it, the cells after it, and which arrays it
 -- touched.
-use Rattle.std.specs.Prelude.{ℕ, ℤ, Bool, true, if◌then◌else◌, List, [], ◌∷◌, ◌++◌, map, Option, Some, None, slice_set}
-use Rattle.std.specs.List.{fold}
+use Rattle.std.specs.Prelude.{ℕ, ℤ, Bool, if◌then◌else◌, List, [], ◌∷◌, ◌++◌, map, Option, Some, None, slice_set}
 use Rattle.mp5_words.specs.Words.{truth}
+use Rattle.mp5_words.specs.Cells.{touching, cell_set}
 use Rattle.domino_tree.specs.declared.expr.Expr.{Expr}
 use Rattle.domino_tree.specs.declared.program.Target.{Target}
 use Rattle.domino_tree.specs.declared.program.Target.TheVariants as target
 use Rattle.domino_tree.specs.declared.program.Stmt.{Stmt, fold-Stmt}
 use Rattle.domino_tree.specs.declared.program.Stmt.TheOpen as open_form
 use Rattle.domino_tree.specs.declared.program.Arm.{Arm, fold-Arm}
-use Rattle.domino_tree.specs.Value.{Names, Store, value, arrays_in, array_number, field_number, index_place, cells_at}
+use Rattle.domino_tree.specs.Value.{Names, Store, value, arrays_in, array_number, field_number, index_place}
 
 -- the fields and cells, and for each array whether it was touched
 pub record State : Type 0 where
@@ -20,16 +20,8 @@ pub record State : Type 0 where
 abbrev pub Does : Type 0
 Does = State → State
 
--- these arrays are touched
-abbrev pub touching : List ℕ → List Bool → List Bool
-touching arrays touched = fold (λ (marks : List Bool) (array : ℕ). slice_set marks array true) touched arrays
-
 abbrev pub touch : List ℕ → Does
 touch arrays s = record s { touched = touching arrays s.touched }
-
--- the cells of the arrays after a cell is given a word
-abbrev pub cell_set : List (List ℤ) → ℕ → ℕ → ℤ → List (List ℤ)
-cell_set cells array place z = slice_set cells array (slice_set (cells_at cells array) place z)
 
 -- fields and cells after a target is given a word
 abbrev pub assigned : Names → Target → ℤ → Store → Store

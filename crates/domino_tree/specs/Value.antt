@@ -1,8 +1,9 @@
 -- The value of an expression, with the fields of a packet and the cells of the registers.
-use Rattle.std.specs.Prelude.{◌≡◌, length, ℕ, suc, ℤ, pos, negsuc, if◌then◌else◌, List, [], ◌∷◌, ◌++◌, map, flat_map, codes, Option, Some, None}
+use Rattle.std.specs.Prelude.{◌≡◌, length, ℕ, suc, ℤ, pos, if◌then◌else◌, List, [], ◌∷◌, ◌++◌, map, flat_map, codes, Option, Some, None}
 use Rattle.std.specs.List.{slice_index_or}
 use Rattle.std.specs.Str.{bytes_eq}
-use Rattle.mp5_words.specs.Words.{op1, op2, truth, hash, cell}
+use Rattle.mp5_words.specs.Words.{op1, op2, cell}
+use Rattle.mp5_words.specs.Cells.{word_at, cells_at, natural, picked, hash_all}
 use Rattle.mp5_words.specs.declared.hashing.HashKind.{HashKind}
 use Rattle.mp5_words.specs.declared.hashing.HashKind.TheVariants.{Two, TwoA, TwoB, Three}
 use Rattle.domino_tree.specs.declared.expr.Expr.{Expr, fold-Expr}
@@ -49,11 +50,6 @@ or_zero (Some z) = z
 abbrev pub size_value : List Defined → Size → ℤ
 size_value defines (size.Number n) = n
 size_value defines (size.Word w) = or_zero (number_of w defines)
-
--- a number as a length; none below 0
-abbrev pub natural : ℤ → ℕ
-natural (pos n) = n
-natural (negsuc n) = 0
 
 -- how many cells an array has; a register has one
 abbrev pub length_value : List Defined → Option Size → ℕ
@@ -112,14 +108,6 @@ pub record Store : Type 0 where
   pub fields : List ℤ
   pub cells : List (List ℤ)
 
--- the word at a place; 0 past them all
-abbrev pub word_at : List ℤ → ℕ → ℤ
-word_at words place = slice_index_or words place (pos 0)
-
--- the cells of an array
-abbrev pub cells_at : List (List ℤ) → ℕ → List ℤ
-cells_at cells array = slice_index_or cells array []
-
 -- how many cells each array has
 abbrev pub cell_counts : Names → List ℕ
 cell_counts names = map (λ (d : Array). d.length) names.arrays
@@ -152,11 +140,7 @@ hash_kind name =
 -- the hash of the arguments; 0 where the name is no hash function's
 abbrev pub hashed : Option HashKind → List ℤ → ℤ
 hashed None args = pos 0
-hashed (Some kind) args = hash kind (word_at args 0) (word_at args 1) (word_at args 2)
-
--- the first word where the condition is true, else the second
-abbrev pub picked : ℤ → ℤ → ℤ → ℤ
-picked c a b = if truth c then a else b
+hashed (Some kind) args = hash_all kind args
 
 -- the value of a form, from those of its operands, all of which are evaluated; a field's own name says which
 -- it is

@@ -1,1 +1,5 @@
 pub mod Words
+pub mod Ranges
+pub mod Cells
+pub mod Domain
+pub mod Copies

@@ -86,6 +86,13 @@ salt TwoA = 97
 salt TwoB = 98
 salt Three = 51
 
+-- how many arguments a call has
+abbrev pub arity : HashKind → ℕ
+arity Two = 2
+arity TwoA = 2
+arity TwoB = 2
+arity Three = 3
+
 -- the four bytes of a word, least significant first
 abbrev pub word_bytes : ℤ → List ℕ
 word_bytes a = to_le_bytes w32 (cast_unsigned w32 a)

@@ -1,5 +1,5 @@
 ghost use Rattle.std.specs.Prelude.{◌≡◌, ◌<◌, ◌≤◌, ◌∷◌};
-ghost use Rattle.mp5_words.specs.Words.{hash as hash_of, mix, mixed, salt, word_bytes, argument_bytes, cell};
+ghost use Rattle.mp5_words.specs.Words.{hash as hash_of, arity, mix, mixed, salt, word_bytes, argument_bytes, cell};
 
 /// The hash functions: three of two words, which differ in their salt, and one of three words.
 #[derive(Clone, Copy, Debug, PartialEq, Eq)]
@@ -12,6 +12,18 @@ pub enum HashKind {
     TwoB,
     /// `hash3`
     Three,
+}
+
+impl HashKind {
+    /// How many arguments a call of the function has.
+    pub fn arity(self) -> usize
+        ensures { result ≡ arity self }
+    {
+        match self {
+            HashKind::Two | HashKind::TwoA | HashKind::TwoB => 2,
+            HashKind::Three => 3,
+        }
+    }
 }
 
 // Where FNV-1a of 32 bits starts, and by what it multiplies.

@@ -10,8 +10,10 @@ mod hashing;
 mod memory;
 mod name;
 mod op;
+mod settings;
 
 pub use hashing::{HashKind, cell_of, hash};
 pub use memory::NoMemory;
 pub use name::{FieldNames, Name};
 pub use op::{Op1, Op2, apply1, apply2};
+pub use settings::{MAX_PIPELINES, MAX_ROUND, MAX_WINDOW, Settings};

@@ -8,7 +8,8 @@ use Rattle.domino_tree.specs.declared.program.Stmt.{Stmt}
 use Rattle.domino_tree.specs.declared.program.Arm.{Arm}
 use Rattle.domino_tree.specs.declared.program.Program.{Program}
 use Rattle.domino_tree.specs.Value.{Names, Array, Store, names_of, value, array_number, field_number, index_place}
-use Rattle.domino_tree.specs.Execution.{State, Does, Choice, cell_set, set_target, in_turn, at_last, touch, chosen, step, choice, exec}
+use Rattle.domino_tree.specs.Execution.{State, Does, Choice, set_target, in_turn, at_last, touch, chosen, step, choice, exec}
+use Rattle.mp5_words.specs.Cells.{cell_set}
 use Rattle.domino_tree.specs.Sequential.{start_cells, untouched, run_from, one}
 use Rattle.domino_tree.proofs.ExecutionLemmas as executed
 use Rattle.domino_tree.proofs.ExprLemmas.{Each}

@@ -5,7 +5,7 @@ use Rattle.std.specs.List.{slice_get}
 use Rattle.std.proofs.lemmas.Option.{get_or_from_slice_get}
 use Rattle.capture_io.specs.Rows.{rows}
 use Rattle.std.proofs.lemmas.List.{length-map, map-append, take_more, drop_more}
-use Rattle.domino_tree.specs.Value.{word_at, cells_at}
+use Rattle.mp5_words.specs.Cells.{word_at, cells_at}
 use Rattle.domino_check.specs.declared.numbered.ArrayInfo.{ArrayInfo}
 use Rattle.switch_runner.specs.Report.{label, fields_text, packet_line, packet_lines, cell_line, cell_lines, register_lines, HasCells}
 

@@ -3,7 +3,7 @@ ghost use Rattle.std.specs.Prelude.{◌≡◌, ◌<◌, ◌≤◌, ◌*◌, ◌+
 ghost use Rattle.std.specs.Fmt.{signed_decimal};
 ghost use Rattle.std.specs.List.{flat_map};
 ghost use Rattle.capture_io.specs.Rows.{rows};
-ghost use Rattle.domino_tree.specs.Value.{cells_at};
+ghost use Rattle.mp5_words.specs.Cells.{cells_at};
 ghost use Rattle.switch_runner.specs.Outside.{TookFront, gained};
 ghost use Rattle.switch_runner.specs.Faults.{WriteCause};
 ghost use Rattle.switch_runner.specs.Writing.{Puts, at};

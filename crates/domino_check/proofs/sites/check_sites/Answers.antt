@@ -1,5 +1,5 @@
 use Rattle.std.proofs.Common.{length, map, ap, ◌∙◌}
-use Rattle.domino_tree.specs.Execution.{touching}
+use Rattle.mp5_words.specs.Cells.{touching}
 use Rattle.domino_check.specs.Infos.{array_of}
 use Rattle.domino_check.proofs.SiteLemmas.{touched_at, touched_more, moves_first, moves_none}
 use Rattle.domino_check.proofs.sites.check_sites.Goals as goal

@@ -1,6 +1,6 @@
 -- the arrays so far are marked
 use Rattle.std.proofs.Common.{◌≡◌, take}
-use Rattle.domino_tree.specs.Execution.{touching}
+use Rattle.mp5_words.specs.Cells.{touching}
 use Rattle.domino_check.proofs.sites.touch.Given as goal
 
 abbrev pub invariant-loop-array : goal.invariant-loop-array

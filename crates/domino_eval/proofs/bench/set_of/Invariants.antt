@@ -1,6 +1,6 @@
 -- the last marks as a number
 use Rattle.std.proofs.Common.{◌≡◌, ◌-◌, drop}
-use Rattle.domino_eval.specs.Parts.{bits}
+use Rattle.mp5_words.specs.Cells.{bits}
 use Rattle.domino_eval.proofs.bench.set_of.Given as goal
 
 abbrev pub invariant-loop-k : goal.invariant-loop-k

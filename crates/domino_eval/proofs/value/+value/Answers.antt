@@ -5,7 +5,7 @@ use Rattle.std.specs.List.{flat_map}
 use Rattle.mp5_words.specs.Words.{hash}
 use Rattle.domino_check.specs.declared.numbered.CheckedExpr.TheVariants as e
 use Rattle.domino_tree.specs.Value.{Store}
-use Rattle.domino_tree.specs.Execution.{touching}
+use Rattle.mp5_words.specs.Cells.{touching}
 use Rattle.domino_check.specs.NumberedMeaning.{indexing, numbered_value, numbered_arrays}
 use Rattle.domino_check.proofs.MeaningLemmas.{value-Hash, arrays-Hash}
 use Rattle.domino_eval.specs.Parts.{store}

@@ -1,7 +1,7 @@
 -- the words and the arrays of the arguments so far
 use Rattle.std.proofs.Common.{◌≡◌, ℕ, ℤ, List, map, flat_map, take}
 use Rattle.domino_tree.specs.Value.{Store}
-use Rattle.domino_tree.specs.Execution.{touching}
+use Rattle.mp5_words.specs.Cells.{touching}
 use Rattle.domino_check.specs.NumberedMeaning.{indexing, numbered_value, numbered_arrays}
 use Rattle.domino_eval.specs.Parts.{store, first_words}
 use Rattle.domino_eval.proofs.value.+value.Given as goal

@@ -1,5 +1,5 @@
 use Rattle.std.proofs.Common.{drop}
-use Rattle.domino_tree.specs.Value.{cells_at}
+use Rattle.mp5_words.specs.Cells.{cells_at}
 use Rattle.switch_runner.specs.Writing.{at}
 use Rattle.switch_runner.specs.Report.{cell_lines}
 use Rattle.switch_runner.proofs.WritingLemmas.{Goes}

@@ -3,7 +3,8 @@ use Rattle.std.proofs.lemmas.List.{take-replicate, with_items_is}
 use Rattle.domino_tree.specs.Value.{names_of}
 use Rattle.domino_tree.specs.Execution.{State}
 use Rattle.domino_tree.specs.Sequential.{untouched}
-use Rattle.domino_eval.specs.Parts.{Held, state, bits}
+use Rattle.domino_eval.specs.Parts.{Held, state}
+use Rattle.mp5_words.specs.Cells.{bits}
 use Rattle.domino_eval.proofs.EvalLemmas.{untouched_is, executed_is}
 use Rattle.domino_eval.proofs.bench.Bench.packet.Goals as goal
 
