@@ -10,7 +10,9 @@ pub mod Agreement
 pub mod SiteLemmas
 pub mod CheckedLemmas
 pub mod DeclaredLemmas
+pub mod UseLemmas
 pub mod BelowLemmas
+pub mod FitLemmas
 pub mod PartsLemmas
 pub mod RefusedLemmas
 pub mod AssemblyLemmas

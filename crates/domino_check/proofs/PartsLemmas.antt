@@ -18,11 +18,10 @@ use Rattle.std.proofs.lemmas.List.FromFn.{length-map-range_with_len}
 use Rattle.domino_check.specs.declared.numbered.CheckedExpr.{CheckedExpr}
 use Rattle.domino_check.specs.declared.numbering.Access.{Access}
 use Rattle.domino_check.specs.declared.sites.Site.{Site}
-use Rattle.domino_check.specs.Checks.{NoUnknown, NoWrongKind}
 use Rattle.domino_check.specs.Numbering.{accesses, numbered_body}
 use Rattle.domino_check.specs.Indexes.{AreBelow, AllKeep, index_of, indexes_of}
 use Rattle.domino_check.specs.Sites.{program_indexes, sites_of}
-use Rattle.domino_check.specs.Refused.{PassesSizes}
+use Rattle.domino_check.specs.Refused.{PassesNames, PassesSizes}
 use Rattle.domino_check.proofs.BelowLemmas.{accesses_below}
 use Rattle.domino_check.proofs.CheckedLemmas.{infos_are, length-infos}
 
@@ -84,8 +83,8 @@ module _ (p : Program) (infos : List ArrayInfo) (is : infos ≡ infos_of p) wher
   count_is : length infos ≡ length (names_of p).arrays
   count_is = ap length is ∙ length-infos p
 
-  pub below_of : (xs : List Access) → xs ≡ accesses p → NoUnknown p → NoWrongKind p → AreBelow (length infos) xs
-  below_of xs x known kept = subst (AreBelow (length infos)) (sym x) (subst (λ (n : ℕ). AreBelow n (accesses p)) (sym count_is) (accesses_below p known kept))
+  pub below_of : (xs : List Access) → xs ≡ accesses p → PassesNames p → AreBelow (length infos) xs
+  below_of xs x passes = subst (AreBelow (length infos)) (sym x) (subst (λ (n : ℕ). AreBelow n (accesses p)) (sym count_is) (accesses_below p passes))
 
   pub accesses_of : (P : List Array → List Access → Type 0) (xs : List Access) → xs ≡ accesses p → P (map array_of infos) xs → P (names_of p).arrays (accesses p)
   accesses_of P xs x h = subst (P (names_of p).arrays) x (subst (λ (arrays : List Array). P arrays xs) arrays_is h)

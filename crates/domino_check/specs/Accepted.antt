@@ -8,6 +8,7 @@ use Rattle.domino_check.specs.Infos.{infos_of}
 use Rattle.domino_check.specs.Numbering.{numbered_body}
 use Rattle.domino_check.specs.Indexes.{HasIndexes}
 use Rattle.domino_check.specs.Sites.{program_indexes}
+use Rattle.domino_check.specs.Refused.{Passes}
 
 -- each array has from 1 to 65,536 cells
 abbrev pub AreSized : List ArrayInfo → Type 0
@@ -20,10 +21,11 @@ pub record Keeps (p : Program) : Type 0 where
   pub sized : AreSized (infos_of p)
   pub indexed : HasIndexes p
 
--- these are the fields, arrays, body and indexes of the program
+-- these are the fields, arrays, body and indexes of the program, which passes all checks
 pub record IsChecked (p : Program) (fields : List (List ℕ)) (arrays : List ArrayInfo) (body : List CheckedStmt) (indexes : List (Option CheckedExpr)) : Type 0 where
   pub fields_are : fields ≡ p.packet.fields
   pub arrays_are : arrays ≡ infos_of p
   pub body_is : body ≡ numbered_body p
   pub indexes_are : indexes ≡ program_indexes p
   pub keeps : Keeps p
+  pub passes : Passes p

@@ -18,7 +18,7 @@ pub index_table-requires : goal.index_table-requires
 index_table-requires c =
     let p = c.args.program.now in
     let found = c.in_ok-body.ensures.accesses ∙ ap (λ l. l ++ accesses p) c.new-accesses.ensures.items in
-    below_of p c.as_slice-2.result.now (c.as_slice-2.ensures ∙ c.in_ok-arrays.ensures) c.number_body.new.out.items found c.requires.names.known c.requires.names.kinds
+    below_of p c.as_slice-2.result.now (c.as_slice-2.ensures ∙ c.in_ok-arrays.ensures) c.number_body.new.out.items found c.requires.names
 
 pub returns-in_err-indexes-clause-refuses : goal.returns-in_err-indexes-clause-refuses
 returns-in_err-indexes-clause-refuses c =
@@ -73,10 +73,21 @@ returns-clause-parts c =
     let p = c.args.program.now in
     let arrays = c.as_slice-2.ensures ∙ c.in_ok-arrays.ensures in
     let found = c.in_ok-body.ensures.accesses ∙ ap (λ l. l ++ accesses p) c.new-accesses.ensures.items in
+    let table = table_of p c.as_slice-2.result.now arrays c.number_body.new.out.items c.in_ok-indexes.indexes found c.in_ok-indexes.ensures.table in
+    let sites = c.deref.ensures.value ∙ c.in_ok-push_block.ensures ∙ ap (λ l. l ++ sites_of c.as_slice-3.result.now) c.new-sites.ensures.items ∙ ap sites_of (c.as_slice-3.ensures ∙ c.in_ok-body.ensures.body) in
     record {
       fields_are = c.new.ensures ∙ c.in_ok-fields.ensures ∙ c.as_slice-6.ensures;
       arrays_are = c.in_ok-arrays.ensures;
       body_is = c.in_ok-body.ensures.body;
-      indexes_are = table_of p c.as_slice-2.result.now arrays c.number_body.new.out.items c.in_ok-indexes.indexes found c.in_ok-indexes.ensures.table;
+      indexes_are = table;
       keeps = keeps_of p c.number_body.new.out.items found c.requires.sizes c.in_ok-indexes.ensures.kept;
+      passes = record {
+        names = c.requires.names;
+        sizes = c.requires.sizes;
+        indexes = record {
+          same = accesses_of p c.as_slice-2.result.now arrays (λ arrays xs. NoFault (IndexDiffersAt arrays) xs) c.number_body.new.out.items found c.in_ok-indexes.ensures.passes;
+          still = sites_at p c.as_slice-4.result.now (c.as_slice-4.ensures ∙ c.in_ok-arrays.ensures) (λ arrays indexes xs. NoFault (IndexMovesAt arrays indexes) xs) c.as_slice-5.result.now c.deref.result.now
+              (c.as_slice-5.ensures ∙ table) sites c.in_ok-check_sites.ensures.passes;
+        };
+      };
     }

@@ -1,6 +1,16 @@
-use Rattle.std.proofs.Common.{subst, ap, ◌∙◌}
+use Rattle.std.proofs.Common.{◌≡◌, List, length, true, subst, sym, ap, ◌∙◌}
+use Rattle.domino_tree.specs.declared.program.Program.{Program}
+use Rattle.domino_tree.specs.Execution.{State}
+use Rattle.domino_check.specs.declared.numbered.CheckedStmt.{CheckedStmt}
+use Rattle.domino_check.specs.Infos.{infos_of}
 use Rattle.domino_check.specs.Numbering.{numbered_body}
+use Rattle.domino_check.specs.NumberedMeaning.{indexing, numbered_exec}
+use Rattle.domino_check.specs.WellFormed.{body_fits}
+use Rattle.domino_check.specs.Refused.{Passes}
 use Rattle.domino_check.specs.Accepted.{Keeps}
+use Rattle.domino_check.proofs.Agreement.{agreement}
+use Rattle.domino_check.proofs.CheckedLemmas.{length-infos}
+use Rattle.domino_check.proofs.FitLemmas.{body_is_fit}
 use Rattle.domino_check.proofs.checked.Checked.body.Goals as goal
 
 pub returns-clause-body : goal.returns-clause-body
@@ -8,3 +18,18 @@ returns-clause-body c = c.as_slice.ensures ∙ c.self.invariant.body_is ∙ ap n
 
 pub returns-clause-keeps : goal.returns-clause-keeps
 returns-clause-keeps c = subst Keeps c.self.view_is c.self.invariant.keeps
+
+pub returns-clause-fits : goal.returns-clause-fits
+returns-clause-fits c =
+    let p = c.args.self.now in
+    let is = c.as_slice.ensures ∙ c.self.invariant.body_is ∙ ap numbered_body c.self.view_is in
+    let passes = subst Passes c.self.view_is c.self.invariant.passes in
+    (λ i. body_fits (length p.packet.fields) (length-infos p i) (is i)) ∙ body_is_fit p passes.names
+
+pub returns-clause-meaning : goal.returns-clause-meaning
+returns-clause-meaning c =
+    let p = c.args.self.now in
+    let is = c.as_slice.ensures ∙ c.self.invariant.body_is ∙ ap numbered_body c.self.view_is in
+    let passes = subst Passes c.self.view_is c.self.invariant.passes in
+    let keeps = subst Keeps c.self.view_is c.self.invariant.keeps in
+    λ start. ap (λ (body : List CheckedStmt). numbered_exec (indexing p) body start) is ∙ agreement p passes.names keeps.indexed start
