@@ -31,11 +31,11 @@ use Rattle.domino_check.proofs.UseLemmas.{AllCalls, calls_left, calls_right, bod
 
 -- ---- accesses that have the index of their array
 
-keep_front : (index : ℕ → Option CheckedExpr) (xs ys : List Access) → AllKeep index (xs ++ ys) → AllKeep index xs
+pub keep_front : (index : ℕ → Option CheckedExpr) (xs ys : List Access) → AllKeep index (xs ++ ys) → AllKeep index xs
 keep_front index [] ys kept = tt
 keep_front index (x ∷ xs) ys kept = (kept.0, keep_front index xs ys kept.1)
 
-keep_back : (index : ℕ → Option CheckedExpr) (xs ys : List Access) → AllKeep index (xs ++ ys) → AllKeep index ys
+pub keep_back : (index : ℕ → Option CheckedExpr) (xs ys : List Access) → AllKeep index (xs ++ ys) → AllKeep index ys
 keep_back index [] ys kept = kept
 keep_back index (x ∷ xs) ys kept = keep_back index xs ys kept.1
 
@@ -145,7 +145,7 @@ module _ (names : Names) (ix : Indexing) (lengths : (array : List ℕ) → ix.le
       ∙ cell_zero (ix.length (array_number names w))
 
   -- the cell that the index names over names
-  cell_place : (a : List ℕ) (i : Expr) → AllKeep ix.index (access_at (array_number names a) (in_numbers names i)) → AllCalls (expr_uses i) → (place ix (array_number names a) st.fields ≡ index_place names a (value names i st)) × (arrays_in names i ≡ [])
+  pub cell_place : (a : List ℕ) (i : Expr) → AllKeep ix.index (access_at (array_number names a) (in_numbers names i)) → AllCalls (expr_uses i) → (place ix (array_number names a) st.fields ≡ index_place names a (value names i st)) × (arrays_in names i ≡ [])
   cell_place a i kept calls =
       let whole = plain_is (numbered names i) kept.0.0 (accesses_in names i) kept.0.1 in
       let plain = same_plain names st i whole.1 calls in (
@@ -255,7 +255,7 @@ module _ (names : Names) (ix : Indexing) (lengths : (array : List ℕ) → ix.le
 -- ---- statements
 
 -- a store without fields and cells
-nowhere : Store
+pub nowhere : Store
 nowhere = record { fields = []; cells = [] }
 
 module _ (names : Names) (ix : Indexing) (lengths : (array : List ℕ) → ix.length (array_number names array) ≡ array_length names array) where

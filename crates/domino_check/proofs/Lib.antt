@@ -8,6 +8,10 @@ pub mod NumberLemmas
 pub mod TableLemmas
 pub mod Agreement
 pub mod SiteLemmas
+pub mod TreeLemmas
+pub mod SiteForms
+pub mod TouchedLemmas
+pub mod ArrayLemmas
 pub mod CheckedLemmas
 pub mod DeclaredLemmas
 pub mod UseLemmas

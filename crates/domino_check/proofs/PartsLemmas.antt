@@ -17,10 +17,9 @@ use Rattle.domino_check.specs.Accepted.{AreSized, Keeps}
 use Rattle.std.proofs.lemmas.List.FromFn.{length-map-range_with_len}
 use Rattle.domino_check.specs.declared.numbered.CheckedExpr.{CheckedExpr}
 use Rattle.domino_check.specs.declared.numbering.Access.{Access}
-use Rattle.domino_check.specs.declared.sites.Site.{Site}
-use Rattle.domino_check.specs.Numbering.{accesses, numbered_body}
+use Rattle.domino_check.specs.Numbering.{accesses}
 use Rattle.domino_check.specs.Indexes.{AreBelow, AllKeep, index_of, indexes_of}
-use Rattle.domino_check.specs.Sites.{program_indexes, sites_of}
+use Rattle.domino_check.specs.Sites.{program_indexes}
 use Rattle.domino_check.specs.Refused.{PassesNames, PassesSizes}
 use Rattle.domino_check.proofs.BelowLemmas.{accesses_below}
 use Rattle.domino_check.proofs.CheckedLemmas.{infos_are, length-infos}
@@ -95,12 +94,8 @@ module _ (p : Program) (infos : List ArrayInfo) (is : infos ≡ infos_of p) wher
   pub same_length : (table : List (Option CheckedExpr)) → table ≡ program_indexes p → length table ≡ length infos
   same_length table t = ap length t ∙ length-map-range_with_len (index_of (accesses p)) 0 (length (names_of p).arrays) ∙ sym count_is
 
-  pub sites_at : (P : List Array → List (Option CheckedExpr) → List Site → Type 0) (table : List (Option CheckedExpr)) (sites : List Site)
-      → table ≡ program_indexes p → sites ≡ sites_of (numbered_body p) → P (map array_of infos) table sites → P (names_of p).arrays (program_indexes p) (sites_of (numbered_body p))
-  sites_at P table sites t s h =
-      subst (P (names_of p).arrays (program_indexes p)) s
-      (subst (λ (x : List (Option CheckedExpr)). P (names_of p).arrays x sites) t
-      (subst (λ (arrays : List Array). P arrays table sites) arrays_is h))
+  pub sites_at : (P : List Array → List (Option CheckedExpr) → Type 0) (table : List (Option CheckedExpr)) → table ≡ program_indexes p → P (map array_of infos) table → P (names_of p).arrays (program_indexes p)
+  sites_at P table t h = subst (P (names_of p).arrays) t (subst (λ (arrays : List Array). P arrays table) arrays_is h)
 
 -- the program keeps what its checks say
 pub keeps_of : (p : Program) (xs : List Access) → xs ≡ accesses p → PassesSizes p → AllKeep (index_of xs) xs → Keeps p

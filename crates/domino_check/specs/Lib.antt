@@ -10,5 +10,7 @@ pub mod Checks
 pub mod Tables
 pub mod Numbers
 pub mod Sites
+pub mod Touches
+pub mod Touched
 pub mod Accepted
 pub mod Refused

@@ -1,8 +1,10 @@
-ghost use Rattle.std.specs.Prelude.{◌≡◌, ◌<◌, ◌↔◌, length, None, true};
+ghost use Rattle.std.specs.Prelude.{◌≡◌, ◌<◌, ◌↔◌, ℕ, length, None, true, false};
 ghost use Rattle.std.specs.Option.{option_copied};
 ghost use Rattle.domino_check.specs.Infos.{infos_of};
 ghost use Rattle.domino_check.specs.Numbering.{numbered_body, accesses};
-ghost use Rattle.domino_check.specs.Indexes.{index_of, IsUntouched};
+ghost use Rattle.domino_check.specs.Indexes.{index_of};
+ghost use Rattle.domino_check.specs.Sites.{program_sites, is_touched};
+ghost use Rattle.domino_check.specs.Touched.{TouchesBySites};
 ghost use Rattle.domino_check.specs.Accepted.{Keeps};
 ghost use Rattle.domino_check.specs.NumberedMeaning.{indexing, numbered_exec, executed_from};
 ghost use Rattle.domino_check.specs.Refused.{Passes};
@@ -97,6 +99,8 @@ impl Checked {
         ensures fits { body_fits (length self.now.packet.fields) (length (infos_of self.now)) result.now ≡ true }
         // Executing it is executing the source, with the same touched arrays.
         ensures meaning { (start : State) → numbered_exec (indexing self.now) result.now start ≡ executed_from self.now start }
+        // The arrays that are touched then are those of its sites.
+        ensures touches { (start : State) (array : ℕ) → array < length start.touched → TouchesBySites self.now start array }
     {
         self.body.as_slice()
     }
@@ -105,7 +109,7 @@ impl Checked {
     pub fn index(&self, array: u32) -> Option<&CheckedExpr>
         requires { array < length (infos_of self.now) }
         ensures index { option_copied result ≡ index_of (accesses self.now) array }
-        ensures untouched { (option_copied result ≡ None) ↔ IsUntouched (accesses self.now) array }
+        ensures untouched { (option_copied result ≡ None) ↔ (is_touched (program_sites self.now) array ≡ false) }
         // Each field in it is one of the program, no array is in it, and each hash has as many arguments as it takes.
         ensures fits { index_fits (length self.now.packet.fields) (option_copied result) ≡ true }
     {

@@ -10,6 +10,7 @@ use Rattle.domino_check.specs.Refused.{Passes}
 use Rattle.domino_check.specs.Accepted.{Keeps}
 use Rattle.domino_check.proofs.Agreement.{agreement}
 use Rattle.domino_check.proofs.CheckedLemmas.{length-infos}
+use Rattle.domino_check.proofs.TouchedLemmas.{touches_by_sites}
 use Rattle.domino_check.proofs.FitLemmas.{body_is_fit}
 use Rattle.domino_check.proofs.checked.Checked.body.Goals as goal
 
@@ -33,3 +34,10 @@ returns-clause-meaning c =
     let passes = subst Passes c.self.view_is c.self.invariant.passes in
     let keeps = subst Keeps c.self.view_is c.self.invariant.keeps in
     λ start. ap (λ (body : List CheckedStmt). numbered_exec (indexing p) body start) is ∙ agreement p passes.names keeps.indexed start
+
+pub returns-clause-touches : goal.returns-clause-touches
+returns-clause-touches c =
+    let p = c.args.self.now in
+    let passes = subst Passes c.self.view_is c.self.invariant.passes in
+    let keeps = subst Keeps c.self.view_is c.self.invariant.keeps in
+    λ start array within. touches_by_sites p start array passes.names keeps.indexed within
