@@ -1,4 +1,6 @@
 pub mod Canonical
+pub mod CountLemmas
+pub mod CountRows
 pub mod ExecutionLemmas
 pub mod ExprLemmas
 pub mod StmtLemmas

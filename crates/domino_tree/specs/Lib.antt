@@ -5,4 +5,5 @@ pub mod Derives
 pub mod Text
 pub mod Value
 pub mod Execution
+pub mod Count
 pub mod Sequential
