@@ -20,7 +20,7 @@ use Rattle.domino_check.specs.declared.numbered.CheckedExpr.TheVariants as expr
 use Rattle.domino_check.specs.Uses.{joined, expr_uses, target_uses, stmt_uses, arm_uses}
 use Rattle.domino_check.specs.Refused.{PassesNames}
 use Rattle.domino_check.specs.declared.numbered.CheckedStmt.{CheckedStmt}
-use Rattle.domino_check.specs.declared.numbering.Access.{Access}
+use Rattle.domino_check.specs.Numbering.{Access}
 use Rattle.domino_check.specs.Numbering as numbers
 use Rattle.domino_check.specs.Numbering.{Numbered, in_numbers, numbered, accesses_in, plain_index, access_at, register_at, numbered_word, called, or_two, numbered_set, numbered_stmt, numbered_arm, target_accesses, stmt_accesses, arm_accesses, block_accesses, numbered_body}
 use Rattle.domino_check.specs.Indexes.{Keeps, AllKeep, HasIndexes}
@@ -132,7 +132,7 @@ cell_zero zero = refl
 cell_zero (suc n) = omega arith
 
 -- an index in which no array stands is the whole index
-plain_is : (tree index : CheckedExpr) (inside : List Access) → plain_index tree inside ≡ Some index → (tree ≡ index) × (inside ≡ [])
+pub plain_is : (tree index : CheckedExpr) (inside : List Access) → plain_index tree inside ≡ Some index → (tree ≡ index) × (inside ≡ [])
 plain_is tree index [] is = (cc, refl)
 plain_is tree index (x ∷ inside) is = absurd (cc)
 

@@ -10,14 +10,11 @@ use Rattle.domino_tree.specs.declared.program.Target.TheVariants as target
 use Rattle.domino_tree.specs.declared.program.Stmt.{Stmt}
 use Rattle.domino_tree.specs.declared.program.Arm.{Arm}
 use Rattle.domino_tree.specs.declared.program.Program.{Program}
-use Rattle.domino_tree.specs.Value.{Names, Store, names_of, number_of, array_number, field_number, array_length, arrays_in, array_word}
+use Rattle.domino_tree.specs.Value.{Names, names_of, number_of, array_number, field_number, array_length, arrays_in, array_word}
 use Rattle.domino_tree.proofs.ValueLemmas as named
 use Rattle.domino_tree.proofs.ExprLemmas.{Each, induct}
 use Rattle.domino_tree.proofs.StmtLemmas as statements
-use Rattle.domino_check.specs.declared.numbered.CheckedExpr.{CheckedExpr}
-use Rattle.domino_check.specs.declared.numbered.CheckedStmt.{CheckedStmt}
-use Rattle.domino_check.specs.declared.numbered.CheckedArm.{CheckedArm}
-use Rattle.domino_check.specs.declared.numbering.Access.{Access}
+use Rattle.domino_check.specs.Numbering.{Access}
 use Rattle.domino_check.specs.declared.sites.Touch.{Touch}
 use Rattle.domino_check.specs.Uses.{joined, expr_uses, target_uses, stmt_uses, arm_uses}
 use Rattle.domino_check.specs.Numbering as numbers
@@ -25,8 +22,8 @@ use Rattle.domino_check.specs.Numbering.{Numbered, in_numbers, numbered, accesse
 use Rattle.domino_check.specs.Indexes.{AllKeep, HasIndexes, index_of}
 use Rattle.domino_check.specs.NumberedMeaning.{Indexing, indexing, numbered_arrays}
 use Rattle.domino_check.specs.Refused.{PassesNames}
-use Rattle.domino_check.specs.Sites.{Site, sites_of, touches, is_touched, program_sites}
-use Rattle.domino_check.specs.Touches.{touch_of, joined_touches, stmt_touches, arm_touches, touches_of}
+use Rattle.domino_check.specs.Sites.{Site, touches, is_touched, program_sites}
+use Rattle.domino_check.specs.Touches.{touch_of, joined_touches, stmt_touches, arm_touches}
 use Rattle.domino_check.proofs.NumberingLemmas as numbering
 use Rattle.domino_check.proofs.UseLemmas.{AllCalls, calls_left, calls_right, body_calls, stmt_uses-Set, stmt_uses-If, stmt_uses-Else, arm_uses-Arm}
 use Rattle.domino_check.proofs.Agreement.{keep_front, keep_back, nowhere, same_value, cell_place}

@@ -1,16 +1,11 @@
 -- Where each name is declared and used as its kind, each array that is accessed is one of the program.
-use Rattle.std.proofs.Common.{◌≡◌, ℕ, ◌<◌, ℤ, Bool, true, false, not, List, [], ◌∷◌, ◌++◌, length, map, flat_map, Option, Some, None, is_none, refl, sym, ap, subst, ◌∙◌, true≢false}
-use Rattle.mp5_words.specs.declared.op.Op1.{Op1}
-use Rattle.mp5_words.specs.declared.op.Op2.{Op2}
-use Rattle.domino_tree.specs.declared.expr.Expr.{Expr, fold-roll-Expr}
-use Rattle.domino_tree.specs.declared.expr.Expr.TheOpen as F
+use Rattle.std.proofs.Common.{◌≡◌, ℕ, ◌<◌, ℤ, true, List, [], ◌∷◌, ◌++◌, length, map, flat_map, Option, Some, None, refl, sym, ap, subst, true≢false}
+use Rattle.domino_tree.specs.declared.expr.Expr.{Expr}
 use Rattle.domino_tree.specs.declared.expr.Expr.TheVariants as e
 use Rattle.domino_tree.specs.declared.program.Target.{Target}
 use Rattle.domino_tree.specs.declared.program.Target.TheVariants as target
-use Rattle.domino_tree.specs.declared.program.Stmt.{Stmt, fold-roll-Stmt}
-use Rattle.domino_tree.specs.declared.program.Arm.{Arm, fold-roll-Arm}
-use Rattle.domino_tree.specs.declared.program.Stmt.TheOpen as O
-use Rattle.domino_tree.specs.declared.program.Stmt.TheVariants as s
+use Rattle.domino_tree.specs.declared.program.Stmt.{Stmt}
+use Rattle.domino_tree.specs.declared.program.Arm.{Arm}
 use Rattle.domino_tree.specs.declared.program.Program.{Program}
 use Rattle.domino_tree.specs.Value.{names_of, number_of, array_number}
 use Rattle.domino_tree.proofs.ExprLemmas.{Each, induct}
@@ -19,10 +14,9 @@ use Rattle.domino_check.specs.declared.role.Role.TheVariants as role
 use Rattle.domino_check.specs.declared.role.Kind.{Kind}
 use Rattle.domino_check.specs.declared.role.Kind.TheVariants as kind
 use Rattle.domino_check.specs.declared.role.Class.TheVariants as class
-use Rattle.domino_check.specs.First.{NoFault}
-use Rattle.domino_check.specs.Uses.{Use, one_use, joined, using, expr_uses, target_uses, stmt_using, arm_using, stmt_uses, arm_uses, item_uses, uses_of}
-use Rattle.domino_check.specs.Checks.{kinds_in, kind_for, takes, is_misused, UnknownAt, WrongKindAt, NoUnknown, NoWrongKind}
-use Rattle.domino_check.specs.declared.numbering.Access.{Access}
+use Rattle.domino_check.specs.Uses.{Use, joined, expr_uses, target_uses, stmt_uses, arm_uses}
+use Rattle.domino_check.specs.Checks.{kinds_in, takes}
+use Rattle.domino_check.specs.Numbering.{Access}
 use Rattle.domino_check.specs.Numbering.{Numbered, numbered_word, in_numbers, accesses_in, target_accesses, stmt_accesses, arm_accesses, in_turn, block_accesses, accesses}
 use Rattle.domino_check.specs.Indexes.{AreBelow}
 use Rattle.domino_check.specs.Refused.{PassesNames}

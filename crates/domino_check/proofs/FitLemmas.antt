@@ -1,6 +1,5 @@
 -- Trees in numbers of a program whose names pass are well formed.
-use Rattle.std.proofs.Common.{◌≡◌, ℕ, ◌<◌, ◌==◌, ℤ, pos, Bool, true, false, ◌&&◌, nat_lt, nat_eq, List, [], ◌∷◌, ◌++◌, length, map, flat_map, Option, Some, None, if◌then◌else◌, refl, sym, ap, subst, ◌∙◌, eq-eqb, inl, inr}
-use Rattle.std.specs.List.{list_all}
+use Rattle.std.proofs.Common.{◌≡◌, ℕ, ◌==◌, ℤ, pos, Bool, true, false, ◌&&◌, nat_lt, nat_eq, List, [], ◌∷◌, ◌++◌, length, map, flat_map, Option, Some, None, if◌then◌else◌, refl, sym, ap, subst, ◌∙◌, eq-eqb}
 use Rattle.std.proofs.lemmas.Bool.{lt-ltb}
 use Rattle.std.proofs.lemmas.List.{length-map}
 use Rattle.mp5_words.specs.declared.op.Op1.{Op1}
@@ -15,7 +14,7 @@ use Rattle.domino_tree.specs.declared.program.Stmt.{Stmt}
 use Rattle.domino_tree.specs.declared.program.Arm.{Arm}
 use Rattle.domino_tree.specs.declared.program.Program.{Program}
 use Rattle.domino_tree.specs.Grammar.{all_true}
-use Rattle.domino_tree.specs.Value.{Names, names_of, number_of, array_number, field_number, hash_kind}
+use Rattle.domino_tree.specs.Value.{Names, names_of, number_of, array_number, field_number}
 use Rattle.domino_tree.proofs.ExprLemmas.{Each, induct}
 use Rattle.domino_tree.proofs.StmtLemmas as statements
 use Rattle.domino_check.specs.declared.numbered.CheckedExpr.{CheckedExpr, fold-roll-CheckedExpr}
@@ -25,7 +24,7 @@ use Rattle.domino_check.specs.declared.numbered.CheckedStmt.{CheckedStmt, fold-r
 use Rattle.domino_check.specs.declared.numbered.CheckedStmt.TheOpen as O
 use Rattle.domino_check.specs.declared.numbered.CheckedStmt.TheVariants as stmt
 use Rattle.domino_check.specs.declared.numbered.CheckedArm.{CheckedArm, fold-roll-CheckedArm}
-use Rattle.domino_check.specs.declared.numbering.Access.{Access}
+use Rattle.domino_check.specs.Numbering.{Access}
 use Rattle.domino_check.specs.declared.role.Kind.{Kind}
 use Rattle.domino_check.specs.declared.role.Kind.TheVariants as kind
 use Rattle.domino_check.specs.declared.role.Role.TheVariants as role

@@ -8,7 +8,7 @@ use Rattle.domino_check.specs.declared.fault.CheckFault.{CheckFault}
 use Rattle.domino_check.specs.declared.fault.CheckFault.TheVariants as fault
 use Rattle.domino_check.specs.declared.numbered.ArrayInfo.{ArrayInfo}
 use Rattle.domino_check.specs.declared.numbered.CheckedExpr.{CheckedExpr}
-use Rattle.domino_check.specs.declared.numbering.Access.{Access}
+use Rattle.domino_check.specs.Numbering.{Access}
 use Rattle.domino_check.specs.First.{FirstFault, NoFault}
 use Rattle.domino_check.specs.Infos.{array_of}
 use Rattle.domino_check.specs.Indexes.{index_of, IsOther, Agrees, Keeps, AllKeep, array_name, IndexDiffersAt, AreIndexes, AreBelow, indexes_of, noted}

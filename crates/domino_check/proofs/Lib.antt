@@ -12,6 +12,7 @@ pub mod TreeLemmas
 pub mod SiteForms
 pub mod TouchedLemmas
 pub mod ArrayLemmas
+pub mod BodyCountLemmas
 pub mod CheckedLemmas
 pub mod DeclaredLemmas
 pub mod UseLemmas

@@ -13,7 +13,7 @@ use Rattle.domino_tree.specs.declared.program.Arm.{Arm, fold-roll-Arm}
 use Rattle.domino_tree.specs.Value.{Names, number_of, array_number, field_number}
 use Rattle.domino_check.specs.declared.numbered.CheckedExpr.TheVariants as expr
 use Rattle.domino_check.specs.declared.numbered.CheckedStmt.TheVariants as stmt
-use Rattle.domino_check.specs.declared.numbering.Access.{Access}
+use Rattle.domino_check.specs.Numbering.{Access}
 use Rattle.domino_check.specs.declared.numbered.CheckedStmt.{CheckedStmt}
 use Rattle.domino_check.specs.declared.numbered.CheckedArm.{CheckedArm}
 use Rattle.domino_check.specs.Numbering.{Numbered, numbering, in_numbers, numbered, accesses_in, numbered_word, called, numbered_set, access_at, target_accesses, stmt_numbering, arm_numbering, numbered_stmt, numbered_arm, in_turn, stmt_accessing, arm_accessing, stmt_accesses, arm_accesses, block_accesses}

@@ -1,6 +1,5 @@
 -- The sites at each form of a statement, and what the check of moving indexes keeps of them.
-use Rattle.std.proofs.Common.{◌≡◌, ℕ, ◌<◌, ◌==◌, Bool, true, false, ◌||◌, ◌&&◌, if◌then◌else◌, List, [], ◌∷◌, ◌++◌, length, map, flat_map, get_or, None, Some, Option, refl, sym, ap, subst, ◌∙◌, append_assoc, append-nil, true≢false, ◌⊎◌, inl, inr}
-use Rattle.std.specs.List.{list_any}
+use Rattle.std.proofs.Common.{◌≡◌, ℕ, List, [], ◌∷◌, ◌++◌, map, None, Some, Option, refl, sym, ap, ◌∙◌, append_assoc}
 use Rattle.std.proofs.lemmas.List.{map-append}
 use Rattle.domino_tree.proofs.ExprLemmas.{Each}
 use Rattle.domino_check.specs.declared.numbered.CheckedExpr.{CheckedExpr}
@@ -10,8 +9,8 @@ use Rattle.domino_check.specs.declared.numbered.CheckedStmt.TheVariants as s
 use Rattle.domino_check.specs.declared.numbered.CheckedArm.{CheckedArm, fold-roll-CheckedArm}
 use Rattle.domino_check.specs.declared.sites.Touch.{Touch}
 use Rattle.domino_check.specs.NumberedMeaning.{numbered_arrays}
-use Rattle.domino_check.specs.Sites.{Site, Sited, SitedArm, field_site, cell_site, condition_site, in_block, in_last_block, in_chain, stmt_siting, arm_siting, stmt_sites, arm_sites, sites_of, touches, is_touched, no_condition, is_open, is_always_touched}
-use Rattle.domino_check.specs.Touches.{touch_of, joined_touches, last_touches, stmt_touching, arm_touching, stmt_touches, arm_touches, touches_of}
+use Rattle.domino_check.specs.Sites.{Sited, SitedArm, field_site, cell_site, condition_site, in_block, in_last_block, in_chain, stmt_siting, arm_siting, stmt_sites, arm_sites, sites_of}
+use Rattle.domino_check.specs.Touches.{touch_of, joined_touches, stmt_touching, arm_touching, stmt_touches, arm_touches, touches_of}
 use Rattle.domino_check.proofs.TreeLemmas.{stmt_induct}
 
 -- ---- each form

@@ -1,8 +1,8 @@
 -- The arrays that are touched site by site, and which assignment moves the index of one.
-use Rattle.std.proofs.Common.{◌≡◌, ◌≢◌, ℕ, suc, ◌+◌, ◌<◌, ◌≤◌, nat_lt, IsTrue, ◌==◌, ℤ, pos, Bool, true, false, ◌||◌, ◌&&◌, List, [], ◌∷◌, ◌++◌, length, map, take, drop, replicate, get_or, slice_set, None, Some, Option, refl, sym, ap, subst, ◌∙◌, arith, inl, inr, true≢false, drop-cons, get_or-set_same, get_or-set_other}
+use Rattle.std.proofs.Common.{◌≡◌, ℕ, suc, ◌+◌, ◌<◌, ◌≤◌, nat_lt, IsTrue, ◌==◌, pos, Bool, true, false, ◌||◌, ◌&&◌, List, [], ◌∷◌, ◌++◌, length, map, take, drop, replicate, get_or, slice_set, None, Some, Option, refl, sym, ap, subst, ◌∙◌, arith, inl, inr, true≢false, drop-cons, get_or-set_same, get_or-set_other}
 use Rattle.std.specs.List.{fold, list_any}
-use Rattle.std.proofs.lemmas.List.{take_more, take_all, length-map, length-set, get_or-map, get_or-replicate, length-replicate, get_or_past, take-append-drop}
-use Rattle.std.proofs.lemmas.Bool.{false≢true, and_parts, ltb-true, ltb-false}
+use Rattle.std.proofs.lemmas.List.{take_more, length-map, length-set, get_or-map, get_or-replicate, length-replicate, get_or_past, take-append-drop}
+use Rattle.std.proofs.lemmas.Bool.{and_parts, ltb-true, ltb-false}
 use Rattle.std.proofs.lemmas.Bool.Decides.{eqb_tells}
 use Rattle.domino_tree.specs.Value.{Array}
 use Rattle.mp5_words.specs.Cells.{touching}
@@ -14,7 +14,7 @@ use Rattle.domino_check.specs.declared.sites.Touch.{Touch}
 use Rattle.domino_check.specs.First.{FirstFault}
 use Rattle.domino_check.specs.Indexes.{array_name}
 use Rattle.domino_check.specs.Sites.{Assigned, to_field, to_cell, nothing, Site, touches, is_touched, index_mentions, stands_in, Moves, MovesFirst, IndexMovesAt, NoneMoves}
-use Rattle.domino_check.specs.Touches.{field_of, touch_of, is_moved, IsFirstMoved, NoneMoved, MovedBy}
+use Rattle.domino_check.specs.Touches.{field_of, touch_of, is_moved, MovedBy}
 use Rattle.domino_check.proofs.FirstLemmas.{where_of, nil_or_more, first_with}
 
 -- ---- marks

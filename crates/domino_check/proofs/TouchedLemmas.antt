@@ -8,7 +8,7 @@ use Rattle.domino_check.specs.declared.numbered.CheckedExpr.{CheckedExpr}
 use Rattle.domino_check.specs.declared.numbered.CheckedStmt.{CheckedStmt}
 use Rattle.domino_check.specs.declared.numbered.CheckedArm.{CheckedArm}
 use Rattle.domino_check.specs.NumberedMeaning.{Indexing, indexing, numbered_arrays, numbered_step, numbered_choice, numbered_exec}
-use Rattle.domino_check.specs.Sites.{Site, Sited, SitedArm, field_site, cell_site, condition_site, in_block, in_last_block, in_chain, stmt_sites, arm_sites, sites_of, touches, is_touched, program_sites, no_condition, is_open, is_always_touched}
+use Rattle.domino_check.specs.Sites.{Site, Sited, SitedArm, field_site, cell_site, condition_site, in_block, in_last_block, in_chain, stmt_sites, arm_sites, sites_of, touches, is_touched, no_condition, is_open, is_always_touched}
 use Rattle.domino_tree.specs.declared.program.Program.{Program}
 use Rattle.domino_check.specs.Numbering.{numbered_body}
 use Rattle.domino_check.specs.Indexes.{HasIndexes}

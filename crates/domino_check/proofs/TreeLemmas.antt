@@ -1,5 +1,5 @@
 -- Induction over trees in numbers.
-use Rattle.std.proofs.Common.{◌≡◌, ℕ, ℤ, List, map, None, Some, sym, subst}
+use Rattle.std.proofs.Common.{ℕ, ℤ, List, map, None, Some, sym, subst}
 use Rattle.mp5_words.specs.declared.op.Op1.{Op1}
 use Rattle.mp5_words.specs.declared.op.Op2.{Op2}
 use Rattle.mp5_words.specs.declared.hashing.HashKind.{HashKind}

@@ -1,5 +1,5 @@
 -- The uses in each form, and uses of names that are declared as a kind that can be used so.
-use Rattle.std.proofs.Common.{◌≡◌, ℕ, ℤ, Bool, true, false, not, nat_eq, List, [], ◌∷◌, ◌++◌, length, map, flat_map, Option, Some, None, is_none, refl, sym, ap, subst, ◌∙◌, true≢false}
+use Rattle.std.proofs.Common.{◌≡◌, ℕ, ℤ, Bool, true, false, not, List, [], ◌∷◌, ◌++◌, length, map, flat_map, Option, Some, None, is_none, refl, sym, ap, ◌∙◌, true≢false}
 use Rattle.mp5_words.specs.declared.op.Op1.{Op1}
 use Rattle.mp5_words.specs.declared.op.Op2.{Op2}
 use Rattle.mp5_words.specs.declared.hashing.HashKind.{HashKind}
@@ -17,7 +17,6 @@ use Rattle.domino_check.specs.declared.role.Role.{Role}
 use Rattle.domino_check.specs.declared.role.Role.TheVariants as role
 use Rattle.domino_check.specs.declared.role.Kind.{Kind}
 use Rattle.domino_check.specs.declared.role.Kind.TheVariants as kind
-use Rattle.domino_check.specs.declared.role.Class.TheVariants as class
 use Rattle.domino_check.specs.First.{NoFault}
 use Rattle.domino_check.specs.Uses.{Use, one_use, field_uses, joined, using, expr_uses, target_uses, stmt_using, arm_using, stmt_uses, arm_uses, item_uses, uses_of}
 use Rattle.domino_check.specs.Checks.{kinds_in, kind_for, takes, is_misused, is_miscalled, UnknownAt, WrongKindAt, ArityAt}

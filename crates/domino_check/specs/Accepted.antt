@@ -1,5 +1,5 @@
 -- What a checked program keeps and offers, each of which is a function of the program.
-use Rattle.std.specs.Prelude.{◌≡◌, ℕ, ◌≤◌, List, [], ◌∷◌, length, Option}
+use Rattle.std.specs.Prelude.{◌≡◌, ℕ, ◌≤◌, List, [], ◌∷◌, length, map, sum, Option}
 use Rattle.domino_tree.specs.declared.program.Program.{Program}
 use Rattle.domino_check.specs.declared.numbered.ArrayInfo.{ArrayInfo}
 use Rattle.domino_check.specs.declared.numbered.CheckedExpr.{CheckedExpr}
@@ -15,9 +15,12 @@ abbrev pub AreSized : List ArrayInfo → Type 0
 AreSized [] = Unit {0}
 AreSized (i ∷ infos) = ((1 ≤ i.length) × (i.length ≤ 65536)) × AreSized infos
 
--- there are at most 16 arrays, each has from 1 to 65,536 cells, and all accesses of an array have one index
+-- there are at most 32 fields and 16 arrays, each has from 1 to 65,536 cells and all together at most 262,144, and
+-- all accesses of an array have one index
 pub record Keeps (p : Program) : Type 0 where
+  pub few_fields : length p.packet.fields ≤ 32
   pub few : length (infos_of p) ≤ 16
+  pub few_cells : sum (map (λ (i : ArrayInfo). i.length) (infos_of p)) ≤ 262144
   pub sized : AreSized (infos_of p)
   pub indexed : HasIndexes p
 

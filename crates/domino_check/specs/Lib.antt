@@ -12,5 +12,6 @@ pub mod Numbers
 pub mod Sites
 pub mod Touches
 pub mod Touched
+pub mod Count
 pub mod Accepted
 pub mod Refused

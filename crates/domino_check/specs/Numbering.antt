@@ -16,9 +16,13 @@ use Rattle.domino_check.specs.declared.numbered.CheckedExpr.TheVariants as expr
 use Rattle.domino_check.specs.declared.numbered.CheckedStmt.{CheckedStmt}
 use Rattle.domino_check.specs.declared.numbered.CheckedStmt.TheVariants as stmt
 use Rattle.domino_check.specs.declared.numbered.CheckedArm.{CheckedArm}
-use Rattle.domino_check.specs.declared.numbering.Access.{Access}
 
 -- ---- expressions
+
+-- an access of an array: the array's number, and its index in numbers; none where an array stands in it
+pub record Access : Type 0 where
+  pub array : ℕ
+  pub index : Option CheckedExpr
 
 -- an expression in numbers, and the accesses of arrays in it
 pub record Numbered : Type 0 where

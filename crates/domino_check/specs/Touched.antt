@@ -1,5 +1,5 @@
 -- Which arrays an execution of a program touches, by its sites.
-use Rattle.std.specs.Prelude.{ℕ, ◌<◌, ◌||◌, false, List, IsTrue, length}
+use Rattle.std.specs.Prelude.{ℕ, ◌||◌, false, IsTrue}
 use Rattle.std.specs.List.{slice_index_or}
 use Rattle.domino_tree.specs.declared.program.Program.{Program}
 use Rattle.domino_tree.specs.Execution.{State}

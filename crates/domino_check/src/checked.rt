@@ -3,12 +3,14 @@ ghost use Rattle.std.specs.Option.{option_copied};
 ghost use Rattle.domino_check.specs.Infos.{infos_of};
 ghost use Rattle.domino_check.specs.Numbering.{numbered_body, accesses};
 ghost use Rattle.domino_check.specs.Indexes.{index_of};
-ghost use Rattle.domino_check.specs.Sites.{program_sites, is_touched};
+ghost use Rattle.domino_check.specs.Count.{numbered_count};
+ghost use Rattle.domino_check.specs.Sites.{program_sites, program_indexes, is_touched};
 ghost use Rattle.domino_check.specs.Touched.{TouchesBySites};
 ghost use Rattle.domino_check.specs.Accepted.{Keeps};
 ghost use Rattle.domino_check.specs.NumberedMeaning.{indexing, numbered_exec, executed_from};
 ghost use Rattle.domino_check.specs.Refused.{Passes};
 ghost use Rattle.domino_check.specs.WellFormed.{body_fits, index_fits};
+ghost use Rattle.domino_tree.specs.Count.{count_of};
 ghost use Rattle.domino_tree.specs.Execution.{State};
 
 use crate::numbered::{ArrayInfo, CheckedExpr, CheckedStmt};
@@ -101,6 +103,8 @@ impl Checked {
         ensures meaning { (start : State) → numbered_exec (indexing self.now) result.now start ≡ executed_from self.now start }
         // The arrays that are touched then are those of its sites.
         ensures touches { (start : State) (array : ℕ) → array < length start.touched → TouchesBySites self.now start array }
+        // It counts as much as the source.
+        ensures count { numbered_count result.now (program_indexes self.now) ≡ count_of self.now }
     {
         self.body.as_slice()
     }

@@ -9,14 +9,36 @@ use domino_tree::{Arm, Expr, Stmt, Target};
 use mp5_words::{HashKind, Name};
 use sqlite_items::{Boxed, Items};
 use std::alloc::{AllocError, Global};
+use std::marker::Model;
 
 /// An access of an array.
-#[derive(Debug, Drop)]
+#[derive(Drop)]
 pub(crate) struct Access {
-    /// The array's number.
-    pub array: u32,
-    /// The index in numbers; none where an array stands in it.
-    pub index: Option<CheckedExpr>,
+    array: u32,
+    index: Option<CheckedExpr>,
+}
+
+impl Model for Access {
+    ghost use Rattle.domino_check.specs.Numbering.{Access as AccessOf};
+
+    ghost Value = { AccessOf };
+
+    ghost use Rattle.domino_check.specs.contracts.numbered.CheckedExpr as expression;
+    ghost use Rattle.std.specs.Coded.{codes};
+
+    ghost coded = { Prim.hlevel (codes, expression.the_row.coded) };
+
+    ghost view = { λ a. record { array = a.array; index = a.index } };
+}
+
+impl Access {
+    /// The array's number, and the index in numbers; none where an array stands in it.
+    pub(crate) fn into_parts(self) -> (u32, Option<CheckedExpr>)
+        ensures { result ≡ (self.array, self.index) }
+    {
+        let Access { array, index } = self;
+        (array, index)
+    }
 }
 
 // The hash function of a name, where it is one.

@@ -1,4 +1,4 @@
-use Rattle.std.proofs.Common.{rules, arith, ◌≡◌, Some, None, replicate, false, List, ◌++◌, ◌∷◌, [], length, map, take, drop, suc, refl, sym, ap, subst, ◌∙◌}
+use Rattle.std.proofs.Common.{rules, arith, ◌≡◌, Some, None, replicate, false, List, ◌++◌, ◌∷◌, [], length, map, take, drop, suc, sym, ap, subst, ◌∙◌}
 use Rattle.std.proofs.lemmas.List.{take_all, length-map}
 use Rattle.mp5_words.specs.Cells.{touching}
 use Rattle.domino_check.specs.First.{FirstFault}

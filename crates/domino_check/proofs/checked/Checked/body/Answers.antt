@@ -1,11 +1,11 @@
-use Rattle.std.proofs.Common.{◌≡◌, List, length, true, subst, sym, ap, ◌∙◌}
-use Rattle.domino_tree.specs.declared.program.Program.{Program}
-use Rattle.domino_tree.specs.Execution.{State}
+use Rattle.std.proofs.Common.{List, length, subst, ap, ◌∙◌}
 use Rattle.domino_check.specs.declared.numbered.CheckedStmt.{CheckedStmt}
-use Rattle.domino_check.specs.Infos.{infos_of}
 use Rattle.domino_check.specs.Numbering.{numbered_body}
 use Rattle.domino_check.specs.NumberedMeaning.{indexing, numbered_exec}
 use Rattle.domino_check.specs.WellFormed.{body_fits}
+use Rattle.domino_check.specs.Sites.{program_indexes}
+use Rattle.domino_check.specs.Count.{numbered_count}
+use Rattle.domino_check.proofs.BodyCountLemmas.{count_agrees}
 use Rattle.domino_check.specs.Refused.{Passes}
 use Rattle.domino_check.specs.Accepted.{Keeps}
 use Rattle.domino_check.proofs.Agreement.{agreement}
@@ -41,3 +41,11 @@ returns-clause-touches c =
     let passes = subst Passes c.self.view_is c.self.invariant.passes in
     let keeps = subst Keeps c.self.view_is c.self.invariant.keeps in
     λ start array within. touches_by_sites p start array passes.names keeps.indexed within
+
+pub returns-clause-count : goal.returns-clause-count
+returns-clause-count c =
+    let p = c.args.self.now in
+    let is = c.as_slice.ensures ∙ c.self.invariant.body_is ∙ ap numbered_body c.self.view_is in
+    let passes = subst Passes c.self.view_is c.self.invariant.passes in
+    let keeps = subst Keeps c.self.view_is c.self.invariant.keeps in
+    ap (λ (body : List CheckedStmt). numbered_count body (program_indexes p)) is ∙ count_agrees p passes.names keeps.indexed
