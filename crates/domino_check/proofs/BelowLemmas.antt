@@ -1,16 +1,11 @@
 -- Where each name is declared and used as its kind, each array that is accessed is one of the program.
-use Rattle.std.proofs.Common.{◌≡◌, ℕ, ◌<◌, ℤ, Bool, true, false, not, List, [], ◌∷◌, ◌++◌, length, map, flat_map, Option, Some, None, is_none, refl, sym, ap, subst, ◌∙◌, true≢false}
-use Rattle.mp5_words.specs.declared.op.Op1.{Op1}
-use Rattle.mp5_words.specs.declared.op.Op2.{Op2}
-use Rattle.domino_tree.specs.declared.expr.Expr.{Expr, fold-roll-Expr}
-use Rattle.domino_tree.specs.declared.expr.Expr.TheOpen as F
+use Rattle.std.proofs.Common.{◌≡◌, ℕ, ◌<◌, ℤ, true, List, [], ◌∷◌, ◌++◌, length, map, flat_map, Option, Some, None, refl, sym, ap, subst, true≢false}
+use Rattle.domino_tree.specs.declared.expr.Expr.{Expr}
 use Rattle.domino_tree.specs.declared.expr.Expr.TheVariants as e
 use Rattle.domino_tree.specs.declared.program.Target.{Target}
 use Rattle.domino_tree.specs.declared.program.Target.TheVariants as target
-use Rattle.domino_tree.specs.declared.program.Stmt.{Stmt, fold-roll-Stmt}
-use Rattle.domino_tree.specs.declared.program.Arm.{Arm, fold-roll-Arm}
-use Rattle.domino_tree.specs.declared.program.Stmt.TheOpen as O
-use Rattle.domino_tree.specs.declared.program.Stmt.TheVariants as s
+use Rattle.domino_tree.specs.declared.program.Stmt.{Stmt}
+use Rattle.domino_tree.specs.declared.program.Arm.{Arm}
 use Rattle.domino_tree.specs.declared.program.Program.{Program}
 use Rattle.domino_tree.specs.Value.{names_of, number_of, array_number}
 use Rattle.domino_tree.proofs.ExprLemmas.{Each, induct}
@@ -19,52 +14,15 @@ use Rattle.domino_check.specs.declared.role.Role.TheVariants as role
 use Rattle.domino_check.specs.declared.role.Kind.{Kind}
 use Rattle.domino_check.specs.declared.role.Kind.TheVariants as kind
 use Rattle.domino_check.specs.declared.role.Class.TheVariants as class
-use Rattle.domino_check.specs.First.{NoFault}
-use Rattle.domino_check.specs.Uses.{Use, one_use, joined, using, expr_uses, target_uses, stmt_using, arm_using, stmt_uses, arm_uses, item_uses, uses_of}
-use Rattle.domino_check.specs.Checks.{kinds_in, kind_for, takes, is_misused, UnknownAt, WrongKindAt, NoUnknown, NoWrongKind}
-use Rattle.domino_check.specs.declared.numbering.Access.{Access}
+use Rattle.domino_check.specs.Uses.{Use, joined, expr_uses, target_uses, stmt_uses, arm_uses}
+use Rattle.domino_check.specs.Checks.{kinds_in, takes}
+use Rattle.domino_check.specs.Numbering.{Access}
 use Rattle.domino_check.specs.Numbering.{Numbered, numbered_word, in_numbers, accesses_in, target_accesses, stmt_accesses, arm_accesses, in_turn, block_accesses, accesses}
 use Rattle.domino_check.specs.Indexes.{AreBelow}
+use Rattle.domino_check.specs.Refused.{PassesNames}
+use Rattle.domino_check.proofs.UseLemmas.{AllGood, good_left, good_right, body_good, expr_uses-Number, expr_uses-Word, expr_uses-Cell, expr_uses-One, expr_uses-Two, expr_uses-Pick, expr_uses-Call, expr_uses-Group, stmt_uses-Set, stmt_uses-If, stmt_uses-Else, arm_uses-Arm}
 use Rattle.domino_check.proofs.NumberingLemmas.{in_numbers-Number, in_numbers-Word, in_numbers-Field, in_numbers-Cell, in_numbers-One, in_numbers-Two, in_numbers-Pick, in_numbers-Call, in_numbers-Group, stmt_accesses-Set, stmt_accesses-If, stmt_accesses-Else, arm_accesses-Arm}
 use Rattle.domino_check.proofs.DeclaredLemmas.{defined_number, register_number}
-
--- ---- the uses at each form
-
-expr_uses-Number : (n : ℤ) → expr_uses (e.Number n) ≡ []
-expr_uses-Number n = ap expr_uses (sym (e.rolls-Number n)) ∙ fold-roll-Expr (List Use) using (F.Expr-F.Number n)
-
-expr_uses-Word : (w : List ℕ) → expr_uses (e.Word w) ≡ one_use w role.Value
-expr_uses-Word w = ap expr_uses (sym (e.rolls-Word w)) ∙ fold-roll-Expr (List Use) using (F.Expr-F.Word w)
-
-expr_uses-Cell : (a : List ℕ) (i : Expr) → expr_uses (e.Cell a i) ≡ one_use a role.Array ++ expr_uses i
-expr_uses-Cell a i = ap expr_uses (sym (e.rolls-Cell a i)) ∙ fold-roll-Expr (List Use) using (F.Expr-F.Cell a i)
-
-expr_uses-One : (op : Op1) (a : Expr) → expr_uses (e.One op a) ≡ expr_uses a
-expr_uses-One op a = ap expr_uses (sym (e.rolls-One op a)) ∙ fold-roll-Expr (List Use) using (F.Expr-F.One op a)
-
-expr_uses-Two : (op : Op2) (a b : Expr) → expr_uses (e.Two op a b) ≡ expr_uses a ++ expr_uses b
-expr_uses-Two op a b = ap expr_uses (sym (e.rolls-Two op a b)) ∙ fold-roll-Expr (List Use) using (F.Expr-F.Two op a b)
-
-expr_uses-Pick : (c a b : Expr) → expr_uses (e.Pick c a b) ≡ expr_uses c ++ (expr_uses a ++ expr_uses b)
-expr_uses-Pick c a b = ap expr_uses (sym (e.rolls-Pick c a b)) ∙ fold-roll-Expr (List Use) using (F.Expr-F.Pick c a b)
-
-expr_uses-Call : (f : List ℕ) (args : List Expr) → expr_uses (e.Call f args) ≡ one_use f (role.Call (length (map expr_uses args))) ++ joined (map expr_uses args)
-expr_uses-Call f args = ap expr_uses (sym (e.rolls-Call f args)) ∙ fold-roll-Expr (List Use) using (F.Expr-F.Call f args)
-
-expr_uses-Group : (a : Expr) → expr_uses (e.Group a) ≡ expr_uses a
-expr_uses-Group a = ap expr_uses (sym (e.rolls-Group a)) ∙ fold-roll-Expr (List Use) using (F.Expr-F.Group a)
-
-stmt_uses-Set : (t : Target) (x : Expr) → stmt_uses (s.Set t x) ≡ target_uses t ++ expr_uses x
-stmt_uses-Set t x = ap stmt_uses (sym (s.rolls-Set t x)) ∙ fold-roll-Stmt (List Use) (List Use) stmt_using arm_using (O.Stmt-F.Set t x)
-
-stmt_uses-If : (arms : List Arm) → stmt_uses (s.If arms None) ≡ joined (map arm_uses arms) ++ []
-stmt_uses-If arms = ap stmt_uses (sym (s.rolls-If arms None)) ∙ fold-roll-Stmt (List Use) (List Use) stmt_using arm_using (O.Stmt-F.If arms None)
-
-stmt_uses-Else : (arms : List Arm) (body : List Stmt) → stmt_uses (s.If arms (Some body)) ≡ joined (map arm_uses arms) ++ joined (map stmt_uses body)
-stmt_uses-Else arms body = ap stmt_uses (sym (s.rolls-If arms (Some body))) ∙ fold-roll-Stmt (List Use) (List Use) stmt_using arm_using (O.Stmt-F.If arms (Some body))
-
-arm_uses-Arm : (cond : Expr) (body : List Stmt) → arm_uses (record { cond = cond; body = body }) ≡ expr_uses cond ++ joined (map stmt_uses body)
-arm_uses-Arm cond body = fold-roll-Arm (List Use) (List Use) stmt_using arm_using (record { cond = cond; body = body })
 
 -- ---- accesses
 
@@ -75,45 +33,6 @@ below_append n (x ∷ xs) ys a b = (a.0, below_append n xs ys a.1 b)
 module _ (p : Program) where
   abbrev n : ℕ
   n = length (names_of p).arrays
-
-  -- the name of the use is declared as a kind that can be used so
-  record IsGood (u : Use) : Type 0 where
-    known : Kind
-    is : kind_for (kinds_in p) u ≡ Some known
-    taken : takes u.role known ≡ true
-
-  abbrev AllGood : List Use → Type 0
-  AllGood [] = Unit {0}
-  AllGood (u ∷ us) = IsGood u × AllGood us
-
-  good_left : (xs ys : List Use) → AllGood (xs ++ ys) → AllGood xs
-  good_left [] ys h = tt
-  good_left (x ∷ xs) ys h = (h.0, good_left xs ys h.1)
-
-  good_right : (xs ys : List Use) → AllGood (xs ++ ys) → AllGood ys
-  good_right [] ys h = h
-  good_right (x ∷ xs) ys h = good_right xs ys h.1
-
-  -- nothing is unknown and nothing is of a wrong kind, so each use is good
-  good_use : (u : Use) → (is_none (kind_for (kinds_in p) u) ≡ true → ⊥) → (is_misused u.role (kind_for (kinds_in p) u) ≡ true → ⊥) → IsGood u
-  good_use u known kept = by (kind_for (kinds_in p) u) refl
-    where
-      by : (o : Option Kind) → kind_for (kinds_in p) u ≡ o → IsGood u
-      by None h = absurd (known (ap is_none h))
-      by (Some k) h = record { known = k; is = h; taken = taking (takes u.role k) refl }
-        where
-          taking : (b : Bool) → takes u.role k ≡ b → takes u.role k ≡ true
-          taking true t = t
-          taking false t = absurd (kept (ap (is_misused u.role) h ∙ ap not t))
-
-  all_good : (us : List Use) → NoFault (UnknownAt (kinds_in p)) us → NoFault (WrongKindAt (kinds_in p)) us → AllGood us
-  all_good [] known kept = tt
-  all_good (u ∷ us) known kept = (
-    good_use u (λ h. known [] u us _ refl (h, refl)) (λ h. kept [] u us _ refl (h, refl)),
-    all_good us
-        (λ before x after g is a. known (u ∷ before) x after g (ap (λ (l : List Use). u ∷ l) is) a)
-        (λ before x after g is a. kept (u ∷ before) x after g (ap (λ (l : List Use). u ∷ l) is) a),
-  )
 
   -- ---- expressions
 
@@ -155,18 +74,18 @@ module _ (p : Program) where
   target_below w kind.Hash is t = absurd (true≢false (sym t))
 
   abbrev Below : Expr → Type 0
-  Below x = AllGood (expr_uses x) → AreBelow n (accesses_in (names_of p) x)
+  Below x = AllGood p (expr_uses x) → AreBelow n (accesses_in (names_of p) x)
 
   -- the accesses are these, and the uses those
-  below_by : (x : Expr) (uses : List Use) (is : List Access) → expr_uses x ≡ uses → accesses_in (names_of p) x ≡ is → (AllGood uses → AreBelow n is) → Below x
-  below_by x uses is u a h good = subst (AreBelow n) (sym a) (h (subst AllGood u good))
+  below_by : (x : Expr) (uses : List Use) (is : List Access) → expr_uses x ≡ uses → accesses_in (names_of p) x ≡ is → (AllGood p uses → AreBelow n is) → Below x
+  below_by x uses is u a h good = subst (AreBelow n) (sym a) (h (subst (AllGood p) u good))
 
-  args_below : (args : List Expr) → Each Below args → AllGood (joined (map expr_uses args)) → AreBelow n (flat_map (λ (x : Numbered). x.accesses) (map (in_numbers (names_of p)) args))
+  args_below : (args : List Expr) → Each Below args → AllGood p (joined (map expr_uses args)) → AreBelow n (flat_map (λ (x : Numbered). x.accesses) (map (in_numbers (names_of p)) args))
   args_below [] each good = tt
   args_below (a ∷ args) each good =
       below_append n (accesses_in (names_of p) a) (flat_map (λ (x : Numbered). x.accesses) (map (in_numbers (names_of p)) args))
-      (each.0 (good_left (expr_uses a) (joined (map expr_uses args)) good))
-      (args_below args each.1 (good_right (expr_uses a) (joined (map expr_uses args)) good))
+      (each.0 (good_left p (expr_uses a) (joined (map expr_uses args)) good))
+      (args_below args each.1 (good_right p (expr_uses a) (joined (map expr_uses args)) good))
 
   expr_below : (x : Expr) → Below x
   expr_below = induct Below
@@ -176,75 +95,71 @@ module _ (p : Program) where
       (λ a i h. below_by (e.Cell a i) _ _ (expr_uses-Cell a i) (ap (λ (x : Numbered). x.accesses) (in_numbers-Cell (names_of p) a i)) (λ good. (array_below a good.0.known good.0.is good.0.taken, h good.1)))
       (λ op a h. below_by (e.One op a) _ _ (expr_uses-One op a) (ap (λ (x : Numbered). x.accesses) (in_numbers-One (names_of p) op a)) h)
       (λ op a b h k. below_by (e.Two op a b) _ _ (expr_uses-Two op a b) (ap (λ (x : Numbered). x.accesses) (in_numbers-Two (names_of p) op a b))
-      (λ good. below_append n (accesses_in (names_of p) a) (accesses_in (names_of p) b) (h (good_left (expr_uses a) (expr_uses b) good)) (k (good_right (expr_uses a) (expr_uses b) good))))
+      (λ good. below_append n (accesses_in (names_of p) a) (accesses_in (names_of p) b) (h (good_left p (expr_uses a) (expr_uses b) good)) (k (good_right p (expr_uses a) (expr_uses b) good))))
       (λ c a b h k l. below_by (e.Pick c a b) _ _ (expr_uses-Pick c a b) (ap (λ (x : Numbered). x.accesses) (in_numbers-Pick (names_of p) c a b))
-      (λ good. let rest = good_right (expr_uses c) (expr_uses a ++ expr_uses b) good in
-      below_append n (accesses_in (names_of p) c) (accesses_in (names_of p) a ++ accesses_in (names_of p) b) (h (good_left (expr_uses c) (expr_uses a ++ expr_uses b) good))
-      (below_append n (accesses_in (names_of p) a) (accesses_in (names_of p) b) (k (good_left (expr_uses a) (expr_uses b) rest)) (l (good_right (expr_uses a) (expr_uses b) rest)))))
+      (λ good. let rest = good_right p (expr_uses c) (expr_uses a ++ expr_uses b) good in
+      below_append n (accesses_in (names_of p) c) (accesses_in (names_of p) a ++ accesses_in (names_of p) b) (h (good_left p (expr_uses c) (expr_uses a ++ expr_uses b) good))
+      (below_append n (accesses_in (names_of p) a) (accesses_in (names_of p) b) (k (good_left p (expr_uses a) (expr_uses b) rest)) (l (good_right p (expr_uses a) (expr_uses b) rest)))))
       (λ f args each. below_by (e.Call f args) _ _ (expr_uses-Call f args) (ap (λ (x : Numbered). x.accesses) (in_numbers-Call (names_of p) f args)) (λ good. args_below args each good.1))
       (λ a h. below_by (e.Group a) _ _ (expr_uses-Group a) (ap (λ (x : Numbered). x.accesses) (in_numbers-Group (names_of p) a)) h)
 
   -- ---- statements
 
-  goal_below : (t : Target) → AllGood (target_uses t) → AreBelow n (target_accesses (names_of p) t)
+  goal_below : (t : Target) → AllGood p (target_uses t) → AreBelow n (target_accesses (names_of p) t)
   goal_below (target.Word w) good = (target_below w good.0.known good.0.is good.0.taken, tt)
   goal_below (target.Field q f) good = tt
   goal_below (target.Cell a i) good = (array_below a good.0.known good.0.is good.0.taken, expr_below i good.1)
 
   abbrev StmtBelow : Stmt → Type 0
-  StmtBelow x = AllGood (stmt_uses x) → AreBelow n (stmt_accesses (names_of p) x)
+  StmtBelow x = AllGood p (stmt_uses x) → AreBelow n (stmt_accesses (names_of p) x)
 
   abbrev ArmBelow : Arm → Type 0
-  ArmBelow x = AllGood (arm_uses x) → AreBelow n (arm_accesses (names_of p) x)
+  ArmBelow x = AllGood p (arm_uses x) → AreBelow n (arm_accesses (names_of p) x)
 
-  stmts_below : (body : List Stmt) → Each StmtBelow body → AllGood (joined (map stmt_uses body)) → AreBelow n (in_turn (map (stmt_accesses (names_of p)) body))
+  stmts_below : (body : List Stmt) → Each StmtBelow body → AllGood p (joined (map stmt_uses body)) → AreBelow n (in_turn (map (stmt_accesses (names_of p)) body))
   stmts_below [] each good = tt
   stmts_below (x ∷ body) each good =
       below_append n (stmt_accesses (names_of p) x) (in_turn (map (stmt_accesses (names_of p)) body))
-      (each.0 (good_left (stmt_uses x) (joined (map stmt_uses body)) good))
-      (stmts_below body each.1 (good_right (stmt_uses x) (joined (map stmt_uses body)) good))
+      (each.0 (good_left p (stmt_uses x) (joined (map stmt_uses body)) good))
+      (stmts_below body each.1 (good_right p (stmt_uses x) (joined (map stmt_uses body)) good))
 
-  arms_below : (arms : List Arm) → Each ArmBelow arms → AllGood (joined (map arm_uses arms)) → AreBelow n (in_turn (map (arm_accesses (names_of p)) arms))
+  arms_below : (arms : List Arm) → Each ArmBelow arms → AllGood p (joined (map arm_uses arms)) → AreBelow n (in_turn (map (arm_accesses (names_of p)) arms))
   arms_below [] each good = tt
   arms_below (x ∷ arms) each good =
       below_append n (arm_accesses (names_of p) x) (in_turn (map (arm_accesses (names_of p)) arms))
-      (each.0 (good_left (arm_uses x) (joined (map arm_uses arms)) good))
-      (arms_below arms each.1 (good_right (arm_uses x) (joined (map arm_uses arms)) good))
+      (each.0 (good_left p (arm_uses x) (joined (map arm_uses arms)) good))
+      (arms_below arms each.1 (good_right p (arm_uses x) (joined (map arm_uses arms)) good))
 
   stmt_below : (x : Stmt) → StmtBelow x
   stmt_below = statements.induct StmtBelow ArmBelow
       (λ t x good.
-      let good' = subst AllGood (stmt_uses-Set t x) good in
+      let good' = subst (AllGood p) (stmt_uses-Set t x) good in
       subst (AreBelow n) (sym (stmt_accesses-Set (names_of p) t x))
-      (below_append n (target_accesses (names_of p) t) (accesses_in (names_of p) x) (goal_below t (good_left (target_uses t) (expr_uses x) good')) (expr_below x (good_right (target_uses t) (expr_uses x) good'))))
+      (below_append n (target_accesses (names_of p) t) (accesses_in (names_of p) x) (goal_below t (good_left p (target_uses t) (expr_uses x) good')) (expr_below x (good_right p (target_uses t) (expr_uses x) good'))))
       (λ arms each good.
-      let good' = subst AllGood (stmt_uses-If arms) good in
+      let good' = subst (AllGood p) (stmt_uses-If arms) good in
       subst (AreBelow n) (sym (stmt_accesses-If (names_of p) arms))
-      (below_append n (in_turn (map (arm_accesses (names_of p)) arms)) [] (arms_below arms each (good_left (joined (map arm_uses arms)) [] good')) tt))
+      (below_append n (in_turn (map (arm_accesses (names_of p)) arms)) [] (arms_below arms each (good_left p (joined (map arm_uses arms)) [] good')) tt))
       (λ arms body each rest good.
-      let good' = subst AllGood (stmt_uses-Else arms body) good in
+      let good' = subst (AllGood p) (stmt_uses-Else arms body) good in
       subst (AreBelow n) (sym (stmt_accesses-Else (names_of p) arms body))
       (below_append n (in_turn (map (arm_accesses (names_of p)) arms)) (block_accesses (names_of p) body)
-      (arms_below arms each (good_left (joined (map arm_uses arms)) (joined (map stmt_uses body)) good'))
-      (stmts_below body rest (good_right (joined (map arm_uses arms)) (joined (map stmt_uses body)) good'))))
+      (arms_below arms each (good_left p (joined (map arm_uses arms)) (joined (map stmt_uses body)) good'))
+      (stmts_below body rest (good_right p (joined (map arm_uses arms)) (joined (map stmt_uses body)) good'))))
       (λ cond body rest good.
-      let good' = subst AllGood (arm_uses-Arm cond body) good in
+      let good' = subst (AllGood p) (arm_uses-Arm cond body) good in
       subst (AreBelow n) (sym (arm_accesses-Arm (names_of p) cond body))
       (below_append n (accesses_in (names_of p) cond) (block_accesses (names_of p) body)
-      (expr_below cond (good_left (expr_uses cond) (joined (map stmt_uses body)) good'))
-      (stmts_below body rest (good_right (expr_uses cond) (joined (map stmt_uses body)) good'))))
+      (expr_below cond (good_left p (expr_uses cond) (joined (map stmt_uses body)) good'))
+      (stmts_below body rest (good_right p (expr_uses cond) (joined (map stmt_uses body)) good'))))
 
-  body_below : (body : List Stmt) → AllGood (joined (map stmt_uses body)) → AreBelow n (block_accesses (names_of p) body)
+  body_below : (body : List Stmt) → AllGood p (joined (map stmt_uses body)) → AreBelow n (block_accesses (names_of p) body)
   body_below [] good = tt
   body_below (x ∷ body) good =
       below_append n (stmt_accesses (names_of p) x) (block_accesses (names_of p) body)
-      (stmt_below x (good_left (stmt_uses x) (joined (map stmt_uses body)) good))
-      (body_below body (good_right (stmt_uses x) (joined (map stmt_uses body)) good))
+      (stmt_below x (good_left p (stmt_uses x) (joined (map stmt_uses body)) good))
+      (body_below body (good_right p (stmt_uses x) (joined (map stmt_uses body)) good))
 
   -- each array that is accessed is one of the program
-  pub accesses_below : NoUnknown p → NoWrongKind p → AreBelow n (accesses p)
-  accesses_below known kept =
-      let good = all_good (uses_of p) known kept in
-      let after = good_right (flat_map item_uses p.before) _ good in
-      let function = good_right (flat_map item_uses p.after) _ after in
-      body_below p.function.body function.1
+  pub accesses_below : PassesNames p → AreBelow n (accesses p)
+  accesses_below passes = body_below p.function.body (body_good p passes)

@@ -1,5 +1,5 @@
 -- What a program declares is among its definitions and its arrays.
-use Rattle.std.proofs.Common.{◌≡◌, ℕ, suc, ◌<◌, ℤ, Bool, true, false, if◌then◌else◌, List, [], ◌∷◌, ◌++◌, length, map, flat_map, ◌⊎◌, inl, inr, Option, Some, None, refl, sym, ap, subst, ◌∙◌, true≢false, arith}
+use Rattle.std.proofs.Common.{◌≡◌, ℕ, suc, ◌<◌, ℤ, Bool, true, false, if◌then◌else◌, List, [], ◌∷◌, ◌++◌, length, map, flat_map, codes, not, nat_eq, ◌⊎◌, inl, inr, Option, Some, None, refl, sym, ap, subst, ◌∙◌, true≢false, eqb-true, arith}
 use Rattle.std.specs.Str.{bytes_eq}
 use Rattle.std.proofs.lemmas.Bool.{and_parts}
 use Rattle.std.proofs.lemmas.List.{map-append}
@@ -7,10 +7,15 @@ use Rattle.std.proofs.lemmas.Slice.Eq.{bytes_eq-Decides}
 use Rattle.domino_tree.specs.declared.program.Item.{Item}
 use Rattle.domino_tree.specs.declared.program.Item.TheVariants as item
 use Rattle.domino_tree.specs.declared.program.Program.{Program}
-use Rattle.domino_tree.specs.Value.{Defined, Array, item_define, item_array, names_of, number_of, place_of, array_number, length_value, start_value}
+use Rattle.domino_tree.specs.Value.{Defined, Array, item_define, item_array, names_of, number_of, place_of, array_number, length_value, start_value, hash_kind}
 use Rattle.domino_check.specs.declared.role.Kind.{Kind}
 use Rattle.domino_check.specs.declared.role.Kind.TheVariants as kind
 use Rattle.domino_check.specs.declared.role.Class.{Class}
+use Rattle.domino_check.specs.declared.role.Class.TheVariants as class
+use Rattle.mp5_words.specs.declared.hashing.HashKind.{HashKind}
+use Rattle.mp5_words.specs.declared.hashing.HashKind.TheVariants as hash
+use Rattle.domino_check.specs.Checks.{arity as named_arity}
+use Rattle.mp5_words.specs.Words.{arity}
 use Rattle.domino_check.specs.Declarations.{Declaration, class_of, is_same_class, declares, kind_in, all_as, hash_names, hash_declarations, item_declaration, packet_declarations, function_declarations, declarations, declared}
 
 -- a name is declared as a kind that passes a test
@@ -159,3 +164,122 @@ array_in defines w (item.Array name (Some s) start ∷ items) (inr h) = placed_f
 -- a register's number is one of an array
 pub register_number : (p : Program) (c : Class) (w : List ℕ) (k : Kind) → kind_in c w (declared p) ≡ Some k → is_register k ≡ true → array_number (names_of p) w < length (names_of p).arrays
 register_number p c w k e t = array_in (names_of p).defines w (p.before ++ p.after) (among_items is_register w p refl refl refl refl refl (among_found is_register w c (declared p) k e t))
+
+-- ---- fields
+
+abbrev is_field : Kind → Bool
+is_field kind.Field = true
+is_field k = false
+
+-- an item declares no field
+no_field_item : (w : List ℕ) (items : List Item) → Among is_field w (map item_declaration items) → ⊥
+no_field_item w [] a = a
+no_field_item w (item.Define name value ∷ items) (inl h) = true≢false (sym h.1)
+no_field_item w (item.Define name value ∷ items) (inr h) = no_field_item w items h
+no_field_item w (item.Array name None start ∷ items) (inl h) = true≢false (sym h.1)
+no_field_item w (item.Array name None start ∷ items) (inr h) = no_field_item w items h
+no_field_item w (item.Array name (Some s) start ∷ items) (inl h) = true≢false (sym h.1)
+no_field_item w (item.Array name (Some s) start ∷ items) (inr h) = no_field_item w items h
+
+-- a name's place among these
+field_in : (w : List ℕ) (names : List (List ℕ)) → Among is_field w (all_as kind.Field names) → place_of w names < length names
+field_in w [] a = absurd a
+field_in w (n ∷ names) (inl h) = placed_more w n names (length names) (inl h.0)
+field_in w (n ∷ names) (inr h) = placed_more w n names (length names) (inr (field_in w names h))
+
+-- a field's number is one of a field
+pub field_below : (p : Program) (c : Class) (w : List ℕ) → kind_in c w (declared p) ≡ Some kind.Field → place_of w p.packet.fields < length p.packet.fields
+field_below p c w e =
+    let after = map item_declaration p.after in
+    elim (among_either is_field w hash_declarations (declarations p) (among_found is_field w c (declared p) kind.Field e refl)) [
+      | inl h ↦ absurd (not_among is_field w kind.Hash hash_names refl h)
+      | inr h ↦ elim (among_either is_field w (map item_declaration p.before) (packet_declarations p.packet ++ (after ++ function_declarations p.function)) h) [
+        | inl x ↦ absurd (no_field_item w p.before x)
+        | inr x ↦ elim (among_either is_field w (packet_declarations p.packet) (after ++ function_declarations p.function) x) [
+          | inl y ↦ elim y [
+            | inl z ↦ absurd (true≢false (sym z.1))
+            | inr z ↦ field_in w p.packet.fields z
+          ]
+          | inr y ↦ elim (among_either is_field w after (function_declarations p.function) y) [
+            | inl z ↦ absurd (no_field_item w p.after z)
+            | inr z ↦ elim z [
+              | inl f ↦ absurd (true≢false (sym f.1))
+              | inr f ↦ elim f [
+                | inl g ↦ absurd (true≢false (sym g.1))
+                | inr g ↦ absurd g
+              ]
+            ]
+          ]
+        ]
+      ]
+    ]
+
+-- ---- hash functions
+
+abbrev is_hash : Kind → Bool
+is_hash kind.Hash = true
+is_hash k = false
+
+no_hash_item : (w : List ℕ) (items : List Item) → Among is_hash w (map item_declaration items) → ⊥
+no_hash_item w [] a = a
+no_hash_item w (item.Define name value ∷ items) (inl h) = true≢false (sym h.1)
+no_hash_item w (item.Define name value ∷ items) (inr h) = no_hash_item w items h
+no_hash_item w (item.Array name None start ∷ items) (inl h) = true≢false (sym h.1)
+no_hash_item w (item.Array name None start ∷ items) (inr h) = no_hash_item w items h
+no_hash_item w (item.Array name (Some s) start ∷ items) (inl h) = true≢false (sym h.1)
+no_hash_item w (item.Array name (Some s) start ∷ items) (inr h) = no_hash_item w items h
+
+-- what is declared as a hash function is one of those that are declared before the text
+among_hashes : (p : Program) (w : List ℕ) → Among is_hash w (declared p) → Among is_hash w hash_declarations
+among_hashes p w a =
+    let after = map item_declaration p.after in
+    elim (among_either is_hash w hash_declarations (declarations p) a) [
+      | inl h ↦ h
+      | inr h ↦ elim (among_either is_hash w (map item_declaration p.before) (packet_declarations p.packet ++ (after ++ function_declarations p.function)) h) [
+        | inl x ↦ absurd (no_hash_item w p.before x)
+        | inr x ↦ elim (among_either is_hash w (packet_declarations p.packet) (after ++ function_declarations p.function) x) [
+          | inl y ↦ elim y [
+            | inl z ↦ absurd (true≢false (sym z.1))
+            | inr z ↦ absurd (not_among is_hash w kind.Field p.packet.fields refl z)
+          ]
+          | inr y ↦ elim (among_either is_hash w after (function_declarations p.function) y) [
+            | inl z ↦ absurd (no_hash_item w p.after z)
+            | inr z ↦ elim z [
+              | inl f ↦ absurd (true≢false (sym f.1))
+              | inr f ↦ elim f [
+                | inl g ↦ absurd (true≢false (sym g.1))
+                | inr g ↦ absurd g
+              ]
+            ]
+          ]
+        ]
+      ]
+    ]
+
+-- as many arguments as the name says
+right_count : (n m : ℕ) → (not (nat_eq n m) ≡ true → ⊥) → n ≡ m
+right_count n m h = by (nat_eq n m) refl
+  where
+    by : (b : Bool) → nat_eq n m ≡ b → n ≡ m
+    by true e = eqb-true n m e
+    by false e = absurd (h (ap not e))
+
+-- a name that is declared as a hash function is called with as many arguments as that takes
+pub hash_called : (p : Program) (w : List ℕ) (n : ℕ) → kind_in class.Others w (declared p) ≡ Some kind.Hash → (not (nat_eq n (named_arity w)) ≡ true → ⊥) → (k : HashKind) × (hash_kind w ≡ Some k) × (n ≡ arity k)
+hash_called p w n e right =
+    let count = right_count n (named_arity w) right in
+    let one : (name : List ℕ) (k : HashKind) → name ≡ w → hash_kind name ≡ Some k → named_arity name ≡ arity k → (k : HashKind) × (hash_kind w ≡ Some k) × (n ≡ arity k) = λ name k is kind args.
+    (k, ap hash_kind (sym is) ∙ kind, count ∙ ap named_arity (sym is) ∙ args) in
+    elim (among_hashes p w (among_found is_hash w class.Others (declared p) kind.Hash e refl)) [
+      | inl h ↦ one (codes "hash2") hash.Two h.0 refl refl
+      | inr h ↦ elim h [
+        | inl h ↦ one (codes "hash2a") hash.TwoA h.0 refl refl
+        | inr h ↦ elim h [
+          | inl h ↦ one (codes "hash2b") hash.TwoB h.0 refl refl
+          | inr h ↦ elim h [
+            | inl h ↦ one (codes "hash3") hash.Three h.0 refl refl
+            | inr h ↦ absurd h
+          ]
+        ]
+      ]
+    ]

@@ -28,15 +28,15 @@ module _ {A : Type 0} where
   same_tail : (x y : A) (xs ys : List A) → x ∷ xs ≡ y ∷ ys → xs ≡ ys
   same_tail x y xs ys e = ap tail_of e
 
-  nil_or_more : (x : A) (before after : List A) → [] ≡ before ++ x ∷ after → ⊥
+  pub nil_or_more : (x : A) (before after : List A) → [] ≡ before ++ x ∷ after → ⊥
   nil_or_more x [] after e = nil_or_cons x after e
   nil_or_more x (y ∷ before) after e = nil_or_cons y (before ++ x ∷ after) e
 
   -- an item of a list with one more is the last one, or stands before it
-  abbrev Where : (xs before : List A) (x y : A) → Type 0
+  abbrev pub Where : (xs before : List A) (x y : A) → Type 0
   Where xs before x y = ((before ≡ xs) × (y ≡ x)) ⊎ ((rest : List A) × (xs ≡ before ++ y ∷ rest))
 
-  where_of : (xs before after : List A) (x y : A) → xs ++ x ∷ [] ≡ before ++ y ∷ after → Where xs before x y
+  pub where_of : (xs before after : List A) (x y : A) → xs ++ x ∷ [] ≡ before ++ y ∷ after → Where xs before x y
   where_of [] [] after x y e = inl (refl, sym (same_head x y [] after e))
   where_of [] (b ∷ before) after x y e = absurd (nil_or_more y before after (same_tail x b [] (before ++ y ∷ after) e))
   where_of (z ∷ xs) [] after x y e = inr (xs, ap (λ t. t ∷ xs) (same_head z y (xs ++ x ∷ []) after e))

@@ -8,10 +8,10 @@ use Rattle.domino_check.specs.declared.fault.CheckFault.{CheckFault}
 use Rattle.domino_check.specs.declared.fault.CheckFault.TheVariants as fault
 use Rattle.domino_check.specs.declared.numbered.ArrayInfo.{ArrayInfo}
 use Rattle.domino_check.specs.declared.numbered.CheckedExpr.{CheckedExpr}
-use Rattle.domino_check.specs.declared.numbering.Access.{Access}
+use Rattle.domino_check.specs.Numbering.{Access}
 use Rattle.domino_check.specs.First.{FirstFault, NoFault}
 use Rattle.domino_check.specs.Infos.{array_of}
-use Rattle.domino_check.specs.Indexes.{index_of, IsOther, Agrees, Keeps, AllKeep, IsUntouched, array_name, IndexDiffersAt, AreIndexes, AreBelow, indexes_of, noted}
+use Rattle.domino_check.specs.Indexes.{index_of, IsOther, Agrees, Keeps, AllKeep, array_name, IndexDiffersAt, AreIndexes, AreBelow, indexes_of, noted}
 use Rattle.domino_check.proofs.ScopeLemmas.{array_names}
 use Rattle.domino_check.proofs.FirstLemmas.{none_with, first_at}
 
@@ -168,6 +168,11 @@ differs_first arrays n all xs x table f within kept front turn fine other is =
     (subst (λ (before : List Access). IndexDiffersAt arrays before x f) front (subst (λ s. IsOther s x.index) (kept.1 x.array within) other, is))
 
 -- ---- arrays that are touched nowhere
+
+-- none of these accesses is of the array
+abbrev pub IsUntouched : List Access → ℕ → Type 0
+IsUntouched [] array = Unit {0}
+IsUntouched (x ∷ xs) array = (x.array ≢ array) × IsUntouched xs array
 
 some≢none : (i : CheckedExpr) → Some i ≡ None → ⊥
 some≢none i e = cc

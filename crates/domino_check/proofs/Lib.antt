@@ -8,9 +8,16 @@ pub mod NumberLemmas
 pub mod TableLemmas
 pub mod Agreement
 pub mod SiteLemmas
+pub mod TreeLemmas
+pub mod SiteForms
+pub mod TouchedLemmas
+pub mod ArrayLemmas
+pub mod BodyCountLemmas
 pub mod CheckedLemmas
 pub mod DeclaredLemmas
+pub mod UseLemmas
 pub mod BelowLemmas
+pub mod FitLemmas
 pub mod PartsLemmas
 pub mod RefusedLemmas
 pub mod AssemblyLemmas

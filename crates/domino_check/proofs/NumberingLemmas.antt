@@ -10,13 +10,13 @@ use Rattle.domino_tree.specs.declared.program.Stmt.{Stmt, fold-roll-Stmt}
 use Rattle.domino_tree.specs.declared.program.Stmt.TheOpen as O
 use Rattle.domino_tree.specs.declared.program.Stmt.TheVariants as s
 use Rattle.domino_tree.specs.declared.program.Arm.{Arm, fold-roll-Arm}
-use Rattle.domino_tree.specs.Value.{Names, number_of, array_number, field_number, hash_kind}
+use Rattle.domino_tree.specs.Value.{Names, number_of, array_number, field_number}
 use Rattle.domino_check.specs.declared.numbered.CheckedExpr.TheVariants as expr
 use Rattle.domino_check.specs.declared.numbered.CheckedStmt.TheVariants as stmt
-use Rattle.domino_check.specs.declared.numbering.Access.{Access}
+use Rattle.domino_check.specs.Numbering.{Access}
 use Rattle.domino_check.specs.declared.numbered.CheckedStmt.{CheckedStmt}
 use Rattle.domino_check.specs.declared.numbered.CheckedArm.{CheckedArm}
-use Rattle.domino_check.specs.Numbering.{Numbered, numbering, in_numbers, numbered, accesses_in, numbered_word, numbered_call, numbered_set, access_at, target_accesses, stmt_numbering, arm_numbering, numbered_stmt, numbered_arm, in_turn, stmt_accessing, arm_accessing, stmt_accesses, arm_accesses, block_accesses}
+use Rattle.domino_check.specs.Numbering.{Numbered, numbering, in_numbers, numbered, accesses_in, numbered_word, called, numbered_set, access_at, target_accesses, stmt_numbering, arm_numbering, numbered_stmt, numbered_arm, in_turn, stmt_accessing, arm_accessing, stmt_accesses, arm_accesses, block_accesses}
 
 -- ---- expressions
 
@@ -41,7 +41,7 @@ in_numbers-Two names op a b = ap (in_numbers names) (sym (e.rolls-Two op a b)) �
 pub in_numbers-Pick : (names : Names) (c a b : Expr) → in_numbers names (e.Pick c a b) ≡ record { tree = expr.Pick (numbered names c) (numbered names a) (numbered names b); accesses = accesses_in names c ++ (accesses_in names a ++ accesses_in names b) }
 in_numbers-Pick names c a b = ap (in_numbers names) (sym (e.rolls-Pick c a b)) ∙ fold-roll-Expr Numbered (numbering names) (F.Expr-F.Pick c a b)
 
-pub in_numbers-Call : (names : Names) (f : List ℕ) (args : List Expr) → in_numbers names (e.Call f args) ≡ record { tree = numbered_call (hash_kind f) (map (λ (a : Numbered). a.tree) (map (in_numbers names) args)); accesses = flat_map (λ (a : Numbered). a.accesses) (map (in_numbers names) args) }
+pub in_numbers-Call : (names : Names) (f : List ℕ) (args : List Expr) → in_numbers names (e.Call f args) ≡ record { tree = expr.Hash (called f) (map (λ (a : Numbered). a.tree) (map (in_numbers names) args)); accesses = flat_map (λ (a : Numbered). a.accesses) (map (in_numbers names) args) }
 in_numbers-Call names f args = ap (in_numbers names) (sym (e.rolls-Call f args)) ∙ fold-roll-Expr Numbered (numbering names) (F.Expr-F.Call f args)
 
 pub in_numbers-Group : (names : Names) (a : Expr) → in_numbers names (e.Group a) ≡ in_numbers names a

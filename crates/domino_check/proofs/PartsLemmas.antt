@@ -1,5 +1,5 @@
 -- What a program that passes the checks of names and sizes keeps.
-use Rattle.std.proofs.Common.{◌≡◌, ℕ, ◌≤◌, ℤ, pos, negsuc, Bool, true, false, ◌||◌, nat_lt, if◌then◌else◌, List, [], ◌∷◌, ◌++◌, length, map, flat_map, Option, Some, None, refl, sym, ap, subst, ◌∙◌, arith}
+use Rattle.std.proofs.Common.{◌≡◌, ℕ, ◌≤◌, ℤ, pos, negsuc, Bool, true, false, ◌||◌, nat_lt, if◌then◌else◌, List, [], ◌∷◌, ◌++◌, length, map, flat_map, sum, Option, Some, None, refl, sym, ap, subst, ◌∙◌, arith}
 use Rattle.std.proofs.lemmas.Bool.{ltb-false}
 use Rattle.domino_tree.specs.declared.program.Item.{Item}
 use Rattle.domino_tree.specs.declared.program.Item.TheVariants as item
@@ -16,13 +16,11 @@ use Rattle.domino_check.specs.Infos.{item_info, infos_of, array_of, defined_of, 
 use Rattle.domino_check.specs.Accepted.{AreSized, Keeps}
 use Rattle.std.proofs.lemmas.List.FromFn.{length-map-range_with_len}
 use Rattle.domino_check.specs.declared.numbered.CheckedExpr.{CheckedExpr}
-use Rattle.domino_check.specs.declared.numbering.Access.{Access}
-use Rattle.domino_check.specs.declared.sites.Site.{Site}
-use Rattle.domino_check.specs.Checks.{NoUnknown, NoWrongKind}
-use Rattle.domino_check.specs.Numbering.{accesses, numbered_body}
+use Rattle.domino_check.specs.Numbering.{Access}
+use Rattle.domino_check.specs.Numbering.{accesses}
 use Rattle.domino_check.specs.Indexes.{AreBelow, AllKeep, index_of, indexes_of}
-use Rattle.domino_check.specs.Sites.{program_indexes, sites_of}
-use Rattle.domino_check.specs.Refused.{PassesSizes}
+use Rattle.domino_check.specs.Sites.{program_indexes}
+use Rattle.domino_check.specs.Refused.{PassesNames, PassesSizes}
 use Rattle.domino_check.proofs.BelowLemmas.{accesses_below}
 use Rattle.domino_check.proofs.CheckedLemmas.{infos_are, length-infos}
 
@@ -47,6 +45,16 @@ pub few_arrays_of : (p : Program) → NoTooMany p → length (infos_of p) ≤ 16
 few_arrays_of p few =
     let h : length (names_of p).arrays ≤ 16 = not_more 16 (length (names_of p).arrays) (λ h. few (what.Defines ∷ what.Fields ∷ []) what.Arrays (what.Cells ∷ []) _ refl (h, refl)) in
     omega (arith, length-infos p, h)
+
+lengths_kept : (infos : List ArrayInfo) → map (λ (d : Array). d.length) (map array_of infos) ≡ map (λ (i : ArrayInfo). i.length) infos
+lengths_kept [] = refl
+lengths_kept (i ∷ infos) = ap (λ l. i.length ∷ l) (lengths_kept infos)
+
+few_cells_of : (p : Program) → NoTooMany p → sum (map (λ (i : ArrayInfo). i.length) (infos_of p)) ≤ 262144
+few_cells_of p few =
+    let counted : sum (map (λ (d : Array). d.length) (names_of p).arrays) ≤ 262144 =
+    not_more 262144 (sum (map (λ (d : Array). d.length) (names_of p).arrays)) (λ h. few (what.Defines ∷ what.Fields ∷ what.Arrays ∷ []) what.Cells [] _ refl (h, refl)) in
+    subst (λ n. n ≤ 262144) (ap sum (sym (ap (map (λ (d : Array). d.length)) (infos_are p)) ∙ lengths_kept (infos_of p))) counted
 
 -- ---- lengths
 
@@ -84,8 +92,8 @@ module _ (p : Program) (infos : List ArrayInfo) (is : infos ≡ infos_of p) wher
   count_is : length infos ≡ length (names_of p).arrays
   count_is = ap length is ∙ length-infos p
 
-  pub below_of : (xs : List Access) → xs ≡ accesses p → NoUnknown p → NoWrongKind p → AreBelow (length infos) xs
-  below_of xs x known kept = subst (AreBelow (length infos)) (sym x) (subst (λ (n : ℕ). AreBelow n (accesses p)) (sym count_is) (accesses_below p known kept))
+  pub below_of : (xs : List Access) → xs ≡ accesses p → PassesNames p → AreBelow (length infos) xs
+  below_of xs x passes = subst (AreBelow (length infos)) (sym x) (subst (λ (n : ℕ). AreBelow n (accesses p)) (sym count_is) (accesses_below p passes))
 
   pub accesses_of : (P : List Array → List Access → Type 0) (xs : List Access) → xs ≡ accesses p → P (map array_of infos) xs → P (names_of p).arrays (accesses p)
   accesses_of P xs x h = subst (P (names_of p).arrays) x (subst (λ (arrays : List Array). P arrays xs) arrays_is h)
@@ -96,17 +104,15 @@ module _ (p : Program) (infos : List ArrayInfo) (is : infos ≡ infos_of p) wher
   pub same_length : (table : List (Option CheckedExpr)) → table ≡ program_indexes p → length table ≡ length infos
   same_length table t = ap length t ∙ length-map-range_with_len (index_of (accesses p)) 0 (length (names_of p).arrays) ∙ sym count_is
 
-  pub sites_at : (P : List Array → List (Option CheckedExpr) → List Site → Type 0) (table : List (Option CheckedExpr)) (sites : List Site)
-      → table ≡ program_indexes p → sites ≡ sites_of (numbered_body p) → P (map array_of infos) table sites → P (names_of p).arrays (program_indexes p) (sites_of (numbered_body p))
-  sites_at P table sites t s h =
-      subst (P (names_of p).arrays (program_indexes p)) s
-      (subst (λ (x : List (Option CheckedExpr)). P (names_of p).arrays x sites) t
-      (subst (λ (arrays : List Array). P arrays table sites) arrays_is h))
+  pub sites_at : (P : List Array → List (Option CheckedExpr) → Type 0) (table : List (Option CheckedExpr)) → table ≡ program_indexes p → P (map array_of infos) table → P (names_of p).arrays (program_indexes p)
+  sites_at P table t h = subst (P (names_of p).arrays) t (subst (λ (arrays : List Array). P arrays table) arrays_is h)
 
 -- the program keeps what its checks say
 pub keeps_of : (p : Program) (xs : List Access) → xs ≡ accesses p → PassesSizes p → AllKeep (index_of xs) xs → Keeps p
 keeps_of p xs x sizes kept = record {
+  few_fields = few_fields_of p sizes.few;
   few = few_arrays_of p sizes.few;
+  few_cells = few_cells_of p sizes.few;
   sized = sized_of p sizes.lengths;
   indexed = subst (λ (l : List Access). AllKeep (index_of l) l) x kept;
 }

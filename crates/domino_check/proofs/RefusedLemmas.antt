@@ -1,5 +1,5 @@
 -- No program is refused by two faults, and none that passes is refused.
-use Rattle.std.proofs.Common.{◌≡◌, ◌≢◌, ℕ, ◌≤◌, ℤ, Bool, true, false, nat_lt, List, ◌++◌, Option, Some, None, Result, Ok, Err, OnOk, IfErr, IsErrAnd, inl, inr, refl, sym, ap, ◌∙◌, true≢false, arith}
+use Rattle.std.proofs.Common.{◌≡◌, ◌≢◌, ℕ, ◌≤◌, ℤ, Bool, true, false, nat_lt, List, [], ◌∷◌, ◌++◌, Option, Some, None, Result, Ok, Err, OnOk, IfErr, IsErrAnd, inl, inr, refl, sym, ap, ◌∙◌, true≢false, arith}
 use Rattle.std.proofs.lemmas.Bool.{ltb-true, ltb-false}
 use Rattle.std.proofs.lemmas.Result.{IfErr-weaker}
 use Rattle.domino_tree.specs.declared.program.Item.{Item}
@@ -11,9 +11,9 @@ use Rattle.domino_check.specs.declared.numbered.CheckedExpr.{CheckedExpr}
 use Rattle.domino_check.specs.Uses.{uses_of}
 use Rattle.domino_check.specs.Declarations.{Declaration, declarations}
 use Rattle.domino_check.specs.Checks.{TwiceAt, UnknownAt, WrongKindAt, ArityAt, BadLengthAt, TooManyAt, kinds_in, item_name, counted}
-use Rattle.domino_check.specs.Numbering.{accesses, numbered_body}
+use Rattle.domino_check.specs.Numbering.{accesses}
 use Rattle.domino_check.specs.Indexes.{IndexDiffersAt, array_name}
-use Rattle.domino_check.specs.Sites.{IsFirstMoved, MovesBy, IndexMovesAt, program_indexes, sites_of}
+use Rattle.domino_check.specs.Sites.{Assigned, Site, MovesFirst, IndexMovesAt, program_indexes, program_sites}
 use Rattle.domino_check.specs.Refused.{OrElse, RefusedNames, RefusedSizes, RefusedIndexes, PassesNames, PassesSizes, PassesIndexes, Refused, Passes}
 use Rattle.domino_check.proofs.FirstLemmas.{not_both, one_first}
 
@@ -28,18 +28,17 @@ one_twice before x f g a b = a.1 ∙ sym b.1
 one_length : (defines : List Defined) (before : List Item) (x : Item) (f g : CheckFault) → BadLengthAt defines before x f → BadLengthAt defines before x g → f ≡ g
 one_length defines before x f g a b = a.2 ∙ ap (fault.BadLength (item_name x)) (some_int a.0 b.0 (sym a.1 ∙ b.1)) ∙ sym b.2
 
-one_array : (touched : List Bool) (indexes : List (Option CheckedExpr)) (field a b : ℕ) → IsFirstMoved touched indexes field a → IsFirstMoved touched indexes field b → a ≡ b
-one_array touched indexes field a b h k = by (nat_lt a b) (nat_lt b a) refl refl
+one_array : (indexes : List (Option CheckedExpr)) (sites : List Site) (assigned : Assigned) (a b : ℕ) → MovesFirst indexes sites assigned a → MovesFirst indexes sites assigned b → a ≡ b
+one_array indexes sites assigned a b h k = by (nat_lt a b) (nat_lt b a) refl refl
   where
     by : (x y : Bool) → nat_lt a b ≡ x → nat_lt b a ≡ y → a ≡ b
-    by true y e d = absurd (true≢false (sym h.1 ∙ k.2 a (ltb-true a b e)))
-    by false true e d = absurd (true≢false (sym k.1 ∙ h.2 b (ltb-true b a d)))
+    by true y e d = absurd (k.1 a (ltb-true a b e) h.0)
+    by false true e d = absurd (h.1 b (ltb-true b a d) k.0)
     by false false e d = let p : b ≤ a = ltb-false a b e in let q : a ≤ b = ltb-false b a d in omega arith
 
-one_move : (arrays : List Array) (indexes : List (Option CheckedExpr)) (touched : List Bool) (field : Option ℕ) (f g : CheckFault) → MovesBy arrays indexes touched field f → MovesBy arrays indexes touched field g → f ≡ g
-one_move arrays indexes touched None f g a b = absurd a
-one_move arrays indexes touched (Some field) f g a b =
-    a.2 ∙ ap (λ n. fault.IndexMoves (array_name arrays n)) (one_array touched indexes field a.0 b.0 a.1 b.1) ∙ sym b.2
+one_move : (arrays : List Array) (indexes : List (Option CheckedExpr)) (before : List Site) (x : Site) (f g : CheckFault) → IndexMovesAt arrays indexes before x f → IndexMovesAt arrays indexes before x g → f ≡ g
+one_move arrays indexes before x f g a b =
+    a.2 ∙ ap (λ n. fault.IndexMoves (array_name arrays n)) (one_array indexes (before ++ x ∷ []) x.assigns a.0 b.0 a.1 b.1) ∙ sym b.2
 
 -- ---- one refusal
 
@@ -67,7 +66,7 @@ module _ (p : Program) where
   indexes_not : (f : CheckFault) → RefusedIndexes p f → PassesIndexes p → ⊥
   indexes_not f r n =
       or_not (not_both (IndexDiffersAt (names_of p).arrays) (accesses p) f)
-      (λ a. not_both (IndexMovesAt (names_of p).arrays (program_indexes p)) (sites_of (numbered_body p)) f a n.still) n.same r
+      (λ a. n.still a.front a.at a.back a.is a.amiss.0 a.amiss.1.0) n.same r
 
   pub not_refused : (f : CheckFault) → Passes p → Refused p f → ⊥
   not_refused f n r = or_not (names_not f) (or_not (sizes_not f) (λ a. indexes_not f a n.indexes) n.sizes) n.names r
@@ -90,7 +89,7 @@ module _ (p : Program) where
       let Differs = IndexDiffersAt (names_of p).arrays in
       let Moves = IndexMovesAt (names_of p).arrays (program_indexes p) in
       or_one f g (one_first Differs (λ before x f g a b. a.1 ∙ sym b.1) (accesses p) f g) (not_both Differs (accesses p) f) (not_both Differs (accesses p) g)
-      (one_first Moves (λ before x f g a b. one_move (names_of p).arrays (program_indexes p) _ x.field f g a b) (sites_of (numbered_body p)) f g)
+      (one_first Moves (one_move (names_of p).arrays (program_indexes p)) (program_sites p) f g)
 
   pub one_refusal : (f g : CheckFault) → Refused p f → Refused p g → f ≡ g
   one_refusal f g = or_one f g (one_names f g) (names_not f) (names_not g) (or_one f g (one_sizes f g) (sizes_not f) (sizes_not g) (one_indexes f g))

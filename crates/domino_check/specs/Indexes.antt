@@ -1,12 +1,12 @@
 -- The index of each array, which all its accesses have.
-use Rattle.std.specs.Prelude.{◌≡◌, ◌≢◌, ℕ, ◌<◌, ◌==◌, if◌then◌else◌, List, [], ◌∷◌, length, map, slice_set, Option, Some, None}
+use Rattle.std.specs.Prelude.{◌≡◌, ℕ, ◌<◌, ◌==◌, if◌then◌else◌, List, [], ◌∷◌, length, map, slice_set, Option, Some, None}
 use Rattle.std.specs.List.{slice_index_or, range_with_len}
 use Rattle.domino_tree.specs.declared.program.Program.{Program}
 use Rattle.domino_tree.specs.Value.{Array, names_of}
 use Rattle.domino_check.specs.declared.fault.CheckFault.{CheckFault}
 use Rattle.domino_check.specs.declared.fault.CheckFault.TheVariants as fault
 use Rattle.domino_check.specs.declared.numbered.CheckedExpr.{CheckedExpr}
-use Rattle.domino_check.specs.declared.numbering.Access.{Access}
+use Rattle.domino_check.specs.Numbering.{Access}
 use Rattle.domino_check.specs.First.{FirstFault, NoFault}
 use Rattle.domino_check.specs.Numbering.{accesses}
 
@@ -52,11 +52,6 @@ NoIndexDiffers p = NoFault (IndexDiffersAt (names_of p).arrays) (accesses p)
 -- the table has the index of each of n arrays
 abbrev pub AreIndexes : List Access → ℕ → List (Option CheckedExpr) → Type 0
 AreIndexes accesses n table = (length table ≡ n) × ((a : ℕ) → a < n → slice_index_or table a None ≡ index_of accesses a)
-
--- none of these accesses is of the array
-abbrev pub IsUntouched : List Access → ℕ → Type 0
-IsUntouched [] array = Unit {0}
-IsUntouched (x ∷ xs) array = (x.array ≢ array) × IsUntouched xs array
 
 -- each access of the program has the one index of its array
 abbrev pub HasIndexes : Program → Type 0

@@ -3,11 +3,15 @@ pub mod Infos
 pub mod Numbering
 pub mod Indexes
 pub mod NumberedMeaning
+pub mod WellFormed
 pub mod Uses
 pub mod Declarations
 pub mod Checks
 pub mod Tables
 pub mod Numbers
 pub mod Sites
+pub mod Touches
+pub mod Touched
+pub mod Count
 pub mod Accepted
 pub mod Refused

@@ -6,7 +6,7 @@ use Rattle.mp5_words.specs.Words.{op1, op2, truth, cell}
 use Rattle.mp5_words.specs.Cells.{word_at, cells_at, cell_set, picked, hash_all, touching}
 use Rattle.domino_tree.specs.declared.program.Program.{Program}
 use Rattle.domino_tree.specs.Value.{Array, Store, names_of}
-use Rattle.domino_tree.specs.Execution.{Does, Choice, in_turn, chosen}
+use Rattle.domino_tree.specs.Execution.{Does, Choice, in_turn, chosen, exec}
 use Rattle.domino_check.specs.declared.numbered.CheckedExpr.{CheckedExpr, fold-CheckedExpr}
 use Rattle.domino_check.specs.declared.numbered.CheckedExpr.TheOpen.{CheckedExpr-F}
 use Rattle.domino_check.specs.declared.numbered.CheckedStmt.{CheckedStmt, fold-CheckedStmt}
@@ -120,3 +120,7 @@ numbered_choice indexing = fold-CheckedArm Does Choice (numbered_doing indexing)
 -- statements in text order
 abbrev pub numbered_exec : Indexing → List CheckedStmt → Does
 numbered_exec indexing body = in_turn (map (numbered_step indexing) body)
+
+-- the source of a program, executed from a state
+abbrev pub executed_from : Program → Does
+executed_from p = exec (names_of p) p.function.body

@@ -16,9 +16,13 @@ use Rattle.domino_check.specs.declared.numbered.CheckedExpr.TheVariants as expr
 use Rattle.domino_check.specs.declared.numbered.CheckedStmt.{CheckedStmt}
 use Rattle.domino_check.specs.declared.numbered.CheckedStmt.TheVariants as stmt
 use Rattle.domino_check.specs.declared.numbered.CheckedArm.{CheckedArm}
-use Rattle.domino_check.specs.declared.numbering.Access.{Access}
 
 -- ---- expressions
+
+-- an access of an array: the array's number, and its index in numbers; none where an array stands in it
+pub record Access : Type 0 where
+  pub array : ℕ
+  pub index : Option CheckedExpr
 
 -- an expression in numbers, and the accesses of arrays in it
 pub record Numbered : Type 0 where
@@ -43,10 +47,14 @@ abbrev pub numbered_word : Option ℤ → ℕ → Numbered
 numbered_word (Some n) array = record { tree = expr.Number n; accesses = [] }
 numbered_word None array = record { tree = expr.Cell array; accesses = register_at array ∷ [] }
 
--- a hash of the arguments; where the name is no hash function's, the arguments are evaluated and 0 is the value
-abbrev pub numbered_call : Option HashKind → List CheckedExpr → CheckedExpr
-numbered_call None args = expr.Pick (expr.Number (pos 0)) (expr.Hash Two args) (expr.Number (pos 0))
-numbered_call (Some kind) args = expr.Hash kind args
+-- the hash function, where there is one; the checks let no other name be called
+abbrev pub or_two : Option HashKind → HashKind
+or_two None = Two
+or_two (Some kind) = kind
+
+-- the hash function that a call names
+abbrev pub called : List ℕ → HashKind
+called name = or_two (hash_kind name)
 
 -- a form in numbers, from its operands; the access of an array stands before those in its index
 abbrev pub numbering : Names → Expr-F Numbered → Numbered
@@ -58,7 +66,7 @@ numbering names (Expr-F.One op a) = record { tree = expr.One op a.tree; accesses
 numbering names (Expr-F.Two op a b) = record { tree = expr.Two op a.tree b.tree; accesses = a.accesses ++ b.accesses }
 numbering names (Expr-F.Pick c a b) = record { tree = expr.Pick c.tree a.tree b.tree; accesses = c.accesses ++ (a.accesses ++ b.accesses) }
 numbering names (Expr-F.Call f args) = record {
-  tree = numbered_call (hash_kind f) (map (λ (a : Numbered). a.tree) args);
+  tree = expr.Hash (called f) (map (λ (a : Numbered). a.tree) args);
   accesses = flat_map (λ (a : Numbered). a.accesses) args;
 }
 numbering names (Expr-F.Group a) = a

@@ -1,9 +1,17 @@
-ghost use Rattle.std.specs.Prelude.{◌≡◌, ◌<◌, ◌↔◌, length, None};
+ghost use Rattle.std.specs.Prelude.{◌≡◌, ◌<◌, ◌↔◌, ℕ, length, None, true, false};
 ghost use Rattle.std.specs.Option.{option_copied};
 ghost use Rattle.domino_check.specs.Infos.{infos_of};
 ghost use Rattle.domino_check.specs.Numbering.{numbered_body, accesses};
-ghost use Rattle.domino_check.specs.Indexes.{index_of, IsUntouched};
+ghost use Rattle.domino_check.specs.Indexes.{index_of};
+ghost use Rattle.domino_check.specs.Count.{numbered_count};
+ghost use Rattle.domino_check.specs.Sites.{program_sites, program_indexes, is_touched};
+ghost use Rattle.domino_check.specs.Touched.{TouchesBySites};
 ghost use Rattle.domino_check.specs.Accepted.{Keeps};
+ghost use Rattle.domino_check.specs.NumberedMeaning.{indexing, numbered_exec, executed_from};
+ghost use Rattle.domino_check.specs.Refused.{Passes};
+ghost use Rattle.domino_check.specs.WellFormed.{body_fits, index_fits};
+ghost use Rattle.domino_tree.specs.Count.{count_of};
+ghost use Rattle.domino_tree.specs.Execution.{State};
 
 use crate::numbered::{ArrayInfo, CheckedExpr, CheckedStmt};
 use crate::parts::Parts;
@@ -64,6 +72,7 @@ impl Checked {
     /// The program as it was read.
     pub fn program(&self) -> &Program
         ensures program { result.now ≡ self.now }
+        ensures passes { Passes self.now }
         ensures keeps { Keeps self.now }
     {
         &self.program
@@ -88,6 +97,14 @@ impl Checked {
     pub fn body(&self) -> &[CheckedStmt]
         ensures body { result.now ≡ numbered_body self.now }
         ensures keeps { Keeps self.now }
+        // Each field and array in it is one of the program, and each hash has as many arguments as it takes.
+        ensures fits { body_fits (length self.now.packet.fields) (length (infos_of self.now)) result.now ≡ true }
+        // Executing it is executing the source, with the same touched arrays.
+        ensures meaning { (start : State) → numbered_exec (indexing self.now) result.now start ≡ executed_from self.now start }
+        // The arrays that are touched then are those of its sites.
+        ensures touches { (start : State) (array : ℕ) → array < length start.touched → TouchesBySites self.now start array }
+        // It counts as much as the source.
+        ensures count { numbered_count result.now (program_indexes self.now) ≡ count_of self.now }
     {
         self.body.as_slice()
     }
@@ -96,7 +113,9 @@ impl Checked {
     pub fn index(&self, array: u32) -> Option<&CheckedExpr>
         requires { array < length (infos_of self.now) }
         ensures index { option_copied result ≡ index_of (accesses self.now) array }
-        ensures untouched { (option_copied result ≡ None) ↔ IsUntouched (accesses self.now) array }
+        ensures untouched { (option_copied result ≡ None) ↔ (is_touched (program_sites self.now) array ≡ false) }
+        // Each field in it is one of the program, no array is in it, and each hash has as many arguments as it takes.
+        ensures fits { index_fits (length self.now.packet.fields) (option_copied result) ≡ true }
     {
         self.indexes.as_slice()[array as usize].as_ref()
     }

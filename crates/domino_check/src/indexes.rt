@@ -28,7 +28,7 @@ pub(crate) fn index_table(
 {
     let mut table = no_indexes(alloc, arrays.len())?;
     for access in accesses {
-        let Access { array, index } = access;
+        let (array, index) = access.into_parts();
         if !note_index(&mut table, array as usize, index) {
             return Err(differs(alloc, arrays, array as usize));
         }

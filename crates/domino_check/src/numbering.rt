@@ -1,7 +1,7 @@
 //! The body of a program in numbers.
 ghost use Rattle.std.specs.Prelude.{◌≡◌, ◌++◌, ◌∷◌, [], IfOk, OnOk, None, map, flat_map};
 ghost use Rattle.domino_tree.specs.Value.{hash_kind, number_of, array_number};
-ghost use Rattle.domino_check.specs.Numbering.{in_numbers, numbered, accesses_in, access_at, register_at, numbered_word, numbered_call, numbered_set, target_accesses, numbered_stmt, numbered_arm, in_turn, stmt_accesses, arm_accesses, block_accesses, Numbered};
+ghost use Rattle.domino_check.specs.Numbering.{in_numbers, numbered, accesses_in, access_at, register_at, numbered_word, called, numbered_set, target_accesses, numbered_stmt, numbered_arm, in_turn, stmt_accesses, arm_accesses, block_accesses, Numbered};
 
 use crate::numbered::{CheckedArm, CheckedExpr, CheckedStmt};
 use crate::scope::Scope;
@@ -9,14 +9,36 @@ use domino_tree::{Arm, Expr, Stmt, Target};
 use mp5_words::{HashKind, Name};
 use sqlite_items::{Boxed, Items};
 use std::alloc::{AllocError, Global};
+use std::marker::Model;
 
 /// An access of an array.
-#[derive(Debug, Drop)]
+#[derive(Drop)]
 pub(crate) struct Access {
-    /// The array's number.
-    pub array: u32,
-    /// The index in numbers; none where an array stands in it.
-    pub index: Option<CheckedExpr>,
+    array: u32,
+    index: Option<CheckedExpr>,
+}
+
+impl Model for Access {
+    ghost use Rattle.domino_check.specs.Numbering.{Access as AccessOf};
+
+    ghost Value = { AccessOf };
+
+    ghost use Rattle.domino_check.specs.contracts.numbered.CheckedExpr as expression;
+    ghost use Rattle.std.specs.Coded.{codes};
+
+    ghost coded = { Prim.hlevel (codes, expression.the_row.coded) };
+
+    ghost view = { λ a. record { array = a.array; index = a.index } };
+}
+
+impl Access {
+    /// The array's number, and the index in numbers; none where an array stands in it.
+    pub(crate) fn into_parts(self) -> (u32, Option<CheckedExpr>)
+        ensures { result ≡ (self.array, self.index) }
+    {
+        let Access { array, index } = self;
+        (array, index)
+    }
 }
 
 // The hash function of a name, where it is one.
@@ -35,6 +57,13 @@ fn hash_kind(name: &Name) -> Option<HashKind>
     } else {
         None
     }
+}
+
+// The hash function that a call names. The checks let no other name be called.
+fn called(name: &Name) -> HashKind
+    ensures { result ≡ called name.now }
+{
+    hash_kind(name).unwrap_or(HashKind::Two)
 }
 
 // An expression in numbers. Its accesses go to the end of the list.
@@ -76,44 +105,12 @@ fn number_expr(
                 Boxed::new(alloc, b)?,
             ))
         }
-        Expr::Call(function, args) => number_call(
-            alloc,
-            scope,
-            function,
-            args.as_slice(),
-            accesses,
-        ),
+        Expr::Call(function, args) => {
+            let args = number_args(alloc, scope, args.as_slice(), accesses)?;
+            Ok(CheckedExpr::Hash(called(function), args))
+        }
         Expr::Group(a) => number_expr(alloc, scope, a.get(), accesses),
     }
-}
-
-// A hash of the arguments; where the name is no hash function's, they are evaluated and 0 is the value.
-#[cycle(number_expr)]
-fn number_call(
-    alloc: Global,
-    scope: &Scope<'_>,
-    function: &Name,
-    args: &[Expr],
-    accesses: &mut Vec<Access>,
-) -> Result<CheckedExpr, AllocError>
-    ensures tree { IfOk result (λ tree. tree ≡ numbered_call (hash_kind function.now) (map (λ (a : Numbered). a.tree) (map (in_numbers scope.now) args.now))) }
-    ensures accesses { OnOk result (accesses.new.items ≡ accesses.old.items ++ flat_map (λ (a : Numbered). a.accesses) (map (in_numbers scope.now) args.now)) }
-{
-    let args = number_args(alloc, scope, args, accesses)?;
-    match hash_kind(function) {
-        Some(kind) => Ok(CheckedExpr::Hash(kind, args)),
-        None => evaluated(alloc, args),
-    }
-}
-
-// The arguments are evaluated, and 0 is the value.
-fn evaluated(alloc: Global, args: Items<CheckedExpr>) -> Result<CheckedExpr, AllocError>
-    ensures { IfOk result (λ tree. tree ≡ numbered_call None args) }
-{
-    let cond = Boxed::new(alloc, CheckedExpr::Number(0))?;
-    let hash = Boxed::new(alloc, CheckedExpr::Hash(HashKind::Two, args))?;
-    let zero = Boxed::new(alloc, CheckedExpr::Number(0))?;
-    Ok(CheckedExpr::Pick(cond, hash, zero))
 }
 
 // The arguments of a call.

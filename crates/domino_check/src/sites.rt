@@ -1,13 +1,14 @@
-//! The assignments and conditions of a body in numbers.
-ghost use Rattle.std.specs.Prelude.{◌≡◌, ◌≢◌, ◌++◌, ◌∷◌, [], length, map, flat_map, OnOk, IfOk, IfErr, MatchOption, Some, None, ◌<◌, false};
+//! The assignments and conditions of a body in numbers, and whether one moves an index.
+ghost use Rattle.std.specs.Prelude.{List, ◌≡◌, ◌≢◌, ◌++◌, ◌∷◌, [], length, map, flat_map, OnOk, IfOk, IfErr, MatchOption, Some, None, ◌<◌, false};
 ghost use Rattle.std.specs.List.{list_any, slice_index_or};
 ghost use Rattle.mp5_words.specs.Cells.{touching};
 ghost use Rattle.domino_check.specs.declared.fault.CheckFault.TheVariants as fault;
-ghost use Rattle.domino_check.specs.First.{FirstFault, NoFault};
+ghost use Rattle.domino_check.specs.First.{FirstFault};
 ghost use Rattle.domino_check.specs.Indexes.{array_name};
 ghost use Rattle.domino_check.specs.Infos.{array_of};
 ghost use Rattle.domino_check.specs.NumberedMeaning.{numbered_arrays};
-ghost use Rattle.domino_check.specs.Sites.{stmt_sites, arm_sites, sites_of, joined_sites, mentions, index_mentions, is_moved, IsFirstMoved, NoneMoved, MovedBy, touched_by, IndexMovesAt};
+ghost use Rattle.domino_check.specs.Sites.{Site, mentions, index_mentions, IndexMovesAt, NoneMoves};
+ghost use Rattle.domino_check.specs.Touches.{stmt_touches, arm_touches, touches_of, joined_touches, touch_of, IsFirstMoved, NoneMoved, MovedBy};
 
 use crate::fault::CheckFault;
 use crate::names::copy_name;
@@ -15,23 +16,23 @@ use crate::numbered::{ArrayInfo, CheckedArm, CheckedExpr, CheckedStmt};
 use sqlite_items::Items;
 use std::alloc::{AllocError, Global};
 
-/// An assignment or a condition.
+/// What is kept of an assignment or a condition.
 #[derive(Debug, Drop)]
-pub(crate) struct Site {
+pub(crate) struct Touch {
     /// The arrays that it touches.
     pub arrays: Items<u32>,
     /// The field that it assigns, if it does.
     pub field: Option<u32>,
 }
 
-/// The sites of a body go to the end of the list.
+/// What is kept of the sites of a body goes to the end of the list.
 #[cycle(push_sites)]
 pub(crate) fn push_block(
     alloc: Global,
-    out: &mut Vec<Site>,
+    out: &mut Vec<Touch>,
     body: &[CheckedStmt],
 ) -> Result<(), AllocError>
-    ensures { OnOk result (out.new.items ≡ out.old.items ++ sites_of body.now) }
+    ensures { OnOk result (out.new.items ≡ out.old.items ++ touches_of body.now) }
 {
     for stmt in body {
         push_stmt(alloc, out, stmt)?;
@@ -40,8 +41,8 @@ pub(crate) fn push_block(
 }
 
 #[cycle(push_sites)]
-fn push_stmt(alloc: Global, out: &mut Vec<Site>, stmt: &CheckedStmt) -> Result<(), AllocError>
-    ensures { OnOk result (out.new.items ≡ out.old.items ++ stmt_sites stmt.now) }
+fn push_stmt(alloc: Global, out: &mut Vec<Touch>, stmt: &CheckedStmt) -> Result<(), AllocError>
+    ensures { OnOk result (out.new.items ≡ out.old.items ++ stmt_touches stmt.now) }
 {
     match stmt {
         CheckedStmt::SetField(field, expr) => push_field(alloc, out, *field, expr),
@@ -55,8 +56,8 @@ fn push_stmt(alloc: Global, out: &mut Vec<Site>, stmt: &CheckedStmt) -> Result<(
 }
 
 #[cycle(push_sites)]
-fn push_arms(alloc: Global, out: &mut Vec<Site>, arms: &[CheckedArm]) -> Result<(), AllocError>
-    ensures { OnOk result (out.new.items ≡ out.old.items ++ joined_sites (map arm_sites arms.now)) }
+fn push_arms(alloc: Global, out: &mut Vec<Touch>, arms: &[CheckedArm]) -> Result<(), AllocError>
+    ensures { OnOk result (out.new.items ≡ out.old.items ++ joined_touches (map arm_touches arms.now)) }
 {
     for arm in arms {
         push_arm(alloc, out, arm)?;
@@ -66,8 +67,8 @@ fn push_arms(alloc: Global, out: &mut Vec<Site>, arms: &[CheckedArm]) -> Result<
 
 // The condition, and then the block.
 #[cycle(push_sites)]
-fn push_arm(alloc: Global, out: &mut Vec<Site>, arm: &CheckedArm) -> Result<(), AllocError>
-    ensures { OnOk result (out.new.items ≡ out.old.items ++ arm_sites arm.now) }
+fn push_arm(alloc: Global, out: &mut Vec<Touch>, arm: &CheckedArm) -> Result<(), AllocError>
+    ensures { OnOk result (out.new.items ≡ out.old.items ++ arm_touches arm.now) }
 {
     push_cond(alloc, out, &arm.cond)?;
     push_block(alloc, out, arm.body.as_slice())
@@ -75,7 +76,7 @@ fn push_arm(alloc: Global, out: &mut Vec<Site>, arm: &CheckedArm) -> Result<(), 
 
 fn push_field(
     alloc: Global,
-    out: &mut Vec<Site>,
+    out: &mut Vec<Touch>,
     field: u32,
     expr: &CheckedExpr,
 ) -> Result<(), AllocError>
@@ -83,7 +84,7 @@ fn push_field(
 {
     let mut read = Items::new(alloc);
     push_arrays(&mut read, expr)?;
-    out.push(Site {
+    out.push(Touch {
         arrays: read,
         field: Some(field),
     })?;
@@ -92,7 +93,7 @@ fn push_field(
 
 fn push_cell(
     alloc: Global,
-    out: &mut Vec<Site>,
+    out: &mut Vec<Touch>,
     array: u32,
     expr: &CheckedExpr,
 ) -> Result<(), AllocError>
@@ -101,19 +102,19 @@ fn push_cell(
     let mut arrays = Items::new(alloc);
     arrays.push(array)?;
     push_arrays(&mut arrays, expr)?;
-    out.push(Site {
+    out.push(Touch {
         arrays,
         field: None,
     })?;
     Ok(())
 }
 
-fn push_cond(alloc: Global, out: &mut Vec<Site>, cond: &CheckedExpr) -> Result<(), AllocError>
+fn push_cond(alloc: Global, out: &mut Vec<Touch>, cond: &CheckedExpr) -> Result<(), AllocError>
     ensures { OnOk result (out.new.items ≡ out.old.items ++ (record { arrays = numbered_arrays cond.now; field = None } ∷ [])) }
 {
     let mut arrays = Items::new(alloc);
     push_arrays(&mut arrays, cond)?;
-    out.push(Site {
+    out.push(Touch {
         arrays,
         field: None,
     })?;
@@ -158,16 +159,16 @@ pub(crate) fn check_sites(
     alloc: Global,
     arrays: &[ArrayInfo],
     indexes: &[Option<CheckedExpr>],
-    sites: &[Site],
+    sites: &[Touch],
 ) -> Result<(), CheckFault>
     requires { length indexes.now ≡ length arrays.now }
-    ensures passes { OnOk result (NoFault (IndexMovesAt (map array_of arrays.now) indexes.now) sites.now) }
-    ensures refuses { IfErr result (λ f. f ≢ fault.NoMemory → FirstFault (IndexMovesAt (map array_of arrays.now) indexes.now) sites.now f) }
+    ensures passes { OnOk result ((all : List Site) → map touch_of all ≡ sites.now → NoneMoves indexes.now all) }
+    ensures refuses { IfErr result (λ f. f ≢ fault.NoMemory → (all : List Site) → map touch_of all ≡ sites.now → FirstFault (IndexMovesAt (map array_of arrays.now) indexes.now) all f) }
 {
     let mut marks = vec![in alloc; false; indexes.len()]?;
     let touched = marks.as_mut_slice();
     for site in sites {
-        touch(touched, site.arrays.as_slice());
+        mark_all(touched, site.arrays.as_slice());
         if let Some(array) = moved_by(touched, indexes, site.field) {
             return Err(moves(alloc, arrays, array));
         }
@@ -176,7 +177,7 @@ pub(crate) fn check_sites(
 }
 
 // These arrays are touched.
-fn touch(touched: &mut [bool], arrays: &[u32])
+fn mark_all(touched: &mut [bool], arrays: &[u32])
     ensures { touched.new ≡ touching arrays.now touched.old }
 {
     for array in arrays {

@@ -18,13 +18,12 @@ use Rattle.domino_check.specs.declared.numbered.CheckedArm.{CheckedArm}
 use Rattle.domino_check.specs.declared.numbered.ArrayInfo.{ArrayInfo}
 use Rattle.domino_check.specs.declared.numbered.CheckedExpr.{CheckedExpr}
 use Rattle.domino_check.specs.Infos.{infos_of, array_of}
-use Rattle.domino_check.specs.Numbering.{accesses, numbered_body}
-use Rattle.domino_check.specs.Indexes.{index_of, HasIndexes}
+use Rattle.domino_check.specs.Numbering.{accesses}
+use Rattle.domino_check.specs.Indexes.{index_of}
 use Rattle.domino_check.specs.Accepted.{AreSized}
-use Rattle.domino_check.specs.NumberedMeaning.{Indexing, indexing, numbered_arrays, plain_value, named_place, place, numbered_step, numbered_choice, numbered_exec}
+use Rattle.domino_check.specs.NumberedMeaning.{Indexing, indexing, numbered_arrays, plain_value, named_place, place, numbered_step, numbered_choice, numbered_exec, executed_from}
 use Rattle.domino_check.proofs.MeaningLemmas.{step-If, step-Else}
 use Rattle.domino_eval.specs.Parts.{first_words, state, entered, last_does, Held, executed}
-use Rattle.domino_check.proofs.Agreement.{agreement}
 use Rattle.domino_check.proofs.CheckedLemmas.{infos_are, length-infos}
 
 next_word : (words : List ℤ) (i : ℕ) (z : ℤ) → i < length words → z ≡ word_at words i → slice_set (first_words (take i words)) i z ≡ first_words (take (i + 1) words)
@@ -185,12 +184,12 @@ untouched_is p infos are = ap (λ n. replicate n false) (ap length are ∙ lengt
 
 -- executing the body in numbers is executing the transaction
 pub executed_is : (p : Program) (bench : Held) (body : List CheckedStmt) (fields : List ℤ) (cells held_cells : List (List ℤ)) (touched : List Bool) (after : State)
-    → record { program = p; cells = held_cells } ≡ bench → HasIndexes p → body ≡ numbered_body p → cells ≡ held_cells → touched ≡ untouched (names_of p)
+    → record { program = p; cells = held_cells } ≡ bench → ((start : State) → numbered_exec (indexing p) body start ≡ executed_from p start) → cells ≡ held_cells → touched ≡ untouched (names_of p)
     → after ≡ numbered_exec (indexing p) body (state fields cells touched) → after ≡ executed bench fields
-executed_is p bench body fields cells held_cells touched after view kept body_is cells_are marks is =
+executed_is p bench body fields cells held_cells touched after view meaning cells_are marks is =
     is
-    ∙ (λ i. numbered_exec (indexing p) (body_is i) (state fields (cells_are i) (marks i)))
-    ∙ agreement p kept (state fields held_cells (untouched (names_of p)))
+    ∙ (λ i. numbered_exec (indexing p) body (state fields (cells_are i) (marks i)))
+    ∙ meaning (state fields held_cells (untouched (names_of p)))
     ∙ ap (λ (b : Held). executed b fields) view
 
 -- ---- the shape of the cells

@@ -3,7 +3,10 @@ use Rattle.std.proofs.lemmas.Result.{err_from_is_err_and}
 use Rattle.domino_check.specs.First.{FirstFault, NoFault}
 use Rattle.domino_check.specs.Numbering.{accesses}
 use Rattle.domino_check.specs.Indexes.{IndexDiffersAt, FirstIndexDiffers}
-use Rattle.domino_check.specs.Sites.{IndexMovesAt, FirstIndexMoves, sites_of}
+use Rattle.domino_check.specs.Numbering.{numbered_body}
+use Rattle.domino_check.specs.Sites.{IndexMovesAt, FirstIndexMoves, NoneMoves, program_sites}
+use Rattle.domino_check.specs.Touches.{touches_of}
+use Rattle.domino_check.proofs.SiteForms.{sites_kept}
 use Rattle.domino_check.proofs.PartsLemmas.{few_fields_of, few_arrays_of, below_of, accesses_of, table_of, same_length, sites_at, keeps_of}
 use Rattle.domino_check.proofs.parts.parts_of.Goals as goal
 
@@ -18,7 +21,7 @@ pub index_table-requires : goal.index_table-requires
 index_table-requires c =
     let p = c.args.program.now in
     let found = c.in_ok-body.ensures.accesses ∙ ap (λ l. l ++ accesses p) c.new-accesses.ensures.items in
-    below_of p c.as_slice-2.result.now (c.as_slice-2.ensures ∙ c.in_ok-arrays.ensures) c.number_body.new.out.items found c.requires.names.known c.requires.names.kinds
+    below_of p c.as_slice-2.result.now (c.as_slice-2.ensures ∙ c.in_ok-arrays.ensures) c.number_body.new.out.items found c.requires.names
 
 pub returns-in_err-indexes-clause-refuses : goal.returns-in_err-indexes-clause-refuses
 returns-in_err-indexes-clause-refuses c =
@@ -43,13 +46,14 @@ returns-in_err-check_sites-clause-refuses c =
     let found = c.in_ok-body.ensures.accesses ∙ ap (λ l. l ++ accesses p) c.new-accesses.ensures.items in
     let same = accesses_of p c.as_slice-2.result.now arrays (λ arrays xs. NoFault (IndexDiffersAt arrays) xs) c.number_body.new.out.items found c.in_ok-indexes.ensures.passes in
     let table = table_of p c.as_slice-2.result.now arrays c.number_body.new.out.items c.in_ok-indexes.indexes found c.in_ok-indexes.ensures.table in
-    let sites = c.deref.ensures.value ∙ c.in_ok-push_block.ensures ∙ ap (λ l. l ++ sites_of c.as_slice-3.result.now) c.new-sites.ensures.items ∙ ap sites_of (c.as_slice-3.ensures ∙ c.in_ok-body.ensures.body) in
+    let sites = c.deref.ensures.value ∙ c.in_ok-push_block.ensures ∙ ap (λ l. l ++ touches_of c.as_slice-3.result.now) c.new-sites.ensures.items ∙ ap touches_of (c.as_slice-3.ensures ∙ c.in_ok-body.ensures.body) in
+    let kept = sites_kept (numbered_body p) ∙ sym sites in
     let e = err_from_is_err_and c.from_residual-in_err-check_sites.result c.from_residual-in_err-check_sites.ensures.1 in
     rw e.1 (λ n. inr (
       same,
       subst (FirstIndexMoves p) (sym e.2)
-          (sites_at p c.as_slice-4.result.now (c.as_slice-4.ensures ∙ c.in_ok-arrays.ensures) (λ arrays indexes xs. FirstFault (IndexMovesAt arrays indexes) xs c.in_err-check_sites.field-0.0) c.as_slice-5.result.now c.deref.result.now
-          (c.as_slice-5.ensures ∙ table) sites (c.in_err-check_sites.ensures.refuses (λ m. n (e.2 ∙ m)))),
+          (sites_at p c.as_slice-4.result.now (c.as_slice-4.ensures ∙ c.in_ok-arrays.ensures) (λ arrays indexes. FirstFault (IndexMovesAt arrays indexes) (program_sites p) c.in_err-check_sites.field-0.0) c.as_slice-5.result.now
+          (c.as_slice-5.ensures ∙ table) (c.in_err-check_sites.ensures.refuses (λ m. n (e.2 ∙ m)) (program_sites p) kept)),
     ))
 
 pub new-requires : goal.new-requires
@@ -61,11 +65,12 @@ returns-clause-passes c =
     let arrays = c.as_slice-2.ensures ∙ c.in_ok-arrays.ensures in
     let found = c.in_ok-body.ensures.accesses ∙ ap (λ l. l ++ accesses p) c.new-accesses.ensures.items in
     let table = table_of p c.as_slice-2.result.now arrays c.number_body.new.out.items c.in_ok-indexes.indexes found c.in_ok-indexes.ensures.table in
-    let sites = c.deref.ensures.value ∙ c.in_ok-push_block.ensures ∙ ap (λ l. l ++ sites_of c.as_slice-3.result.now) c.new-sites.ensures.items ∙ ap sites_of (c.as_slice-3.ensures ∙ c.in_ok-body.ensures.body) in
+    let sites = c.deref.ensures.value ∙ c.in_ok-push_block.ensures ∙ ap (λ l. l ++ touches_of c.as_slice-3.result.now) c.new-sites.ensures.items ∙ ap touches_of (c.as_slice-3.ensures ∙ c.in_ok-body.ensures.body) in
+    let kept = sites_kept (numbered_body p) ∙ sym sites in
     record {
       same = accesses_of p c.as_slice-2.result.now arrays (λ arrays xs. NoFault (IndexDiffersAt arrays) xs) c.number_body.new.out.items found c.in_ok-indexes.ensures.passes;
-      still = sites_at p c.as_slice-4.result.now (c.as_slice-4.ensures ∙ c.in_ok-arrays.ensures) (λ arrays indexes xs. NoFault (IndexMovesAt arrays indexes) xs) c.as_slice-5.result.now c.deref.result.now
-          (c.as_slice-5.ensures ∙ table) sites c.in_ok-check_sites.ensures.passes;
+      still = sites_at p c.as_slice-4.result.now (c.as_slice-4.ensures ∙ c.in_ok-arrays.ensures) (λ arrays indexes. NoneMoves indexes (program_sites p)) c.as_slice-5.result.now (c.as_slice-5.ensures ∙ table)
+          (c.in_ok-check_sites.ensures.passes (program_sites p) kept);
     }
 
 pub returns-clause-parts : goal.returns-clause-parts
@@ -73,10 +78,22 @@ returns-clause-parts c =
     let p = c.args.program.now in
     let arrays = c.as_slice-2.ensures ∙ c.in_ok-arrays.ensures in
     let found = c.in_ok-body.ensures.accesses ∙ ap (λ l. l ++ accesses p) c.new-accesses.ensures.items in
+    let table = table_of p c.as_slice-2.result.now arrays c.number_body.new.out.items c.in_ok-indexes.indexes found c.in_ok-indexes.ensures.table in
+    let sites = c.deref.ensures.value ∙ c.in_ok-push_block.ensures ∙ ap (λ l. l ++ touches_of c.as_slice-3.result.now) c.new-sites.ensures.items ∙ ap touches_of (c.as_slice-3.ensures ∙ c.in_ok-body.ensures.body) in
+    let kept = sites_kept (numbered_body p) ∙ sym sites in
     record {
       fields_are = c.new.ensures ∙ c.in_ok-fields.ensures ∙ c.as_slice-6.ensures;
       arrays_are = c.in_ok-arrays.ensures;
       body_is = c.in_ok-body.ensures.body;
-      indexes_are = table_of p c.as_slice-2.result.now arrays c.number_body.new.out.items c.in_ok-indexes.indexes found c.in_ok-indexes.ensures.table;
+      indexes_are = table;
       keeps = keeps_of p c.number_body.new.out.items found c.requires.sizes c.in_ok-indexes.ensures.kept;
+      passes = record {
+        names = c.requires.names;
+        sizes = c.requires.sizes;
+        indexes = record {
+          same = accesses_of p c.as_slice-2.result.now arrays (λ arrays xs. NoFault (IndexDiffersAt arrays) xs) c.number_body.new.out.items found c.in_ok-indexes.ensures.passes;
+          still = sites_at p c.as_slice-4.result.now (c.as_slice-4.ensures ∙ c.in_ok-arrays.ensures) (λ arrays indexes. NoneMoves indexes (program_sites p)) c.as_slice-5.result.now (c.as_slice-5.ensures ∙ table)
+              (c.in_ok-check_sites.ensures.passes (program_sites p) kept);
+        };
+      };
     }

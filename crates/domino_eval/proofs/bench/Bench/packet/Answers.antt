@@ -17,7 +17,7 @@ returns-clause-fields c =
     let few : length infos ≤ 16 = omega (arith, ap length c.arrays-count.ensures.arrays, c.body.ensures.keeps.few) in
     let marks : take (length infos) (replicate 16 false) ≡ untouched (names_of checked) = take-replicate (length infos) 16 false few ∙ untouched_is checked infos c.arrays-count.ensures.arrays in
     ap (λ (s : State). s.store.fields)
-    (executed_is checked c.args.self.now c.body.result.now c.args.fields.now c.deref_mut.result.now c.self.inside.cells.items _ after c.self.view_is c.body.ensures.keeps.indexed c.body.ensures.body c.deref_mut.ensures.value marks c.run_block.ensures)
+    (executed_is checked c.args.self.now c.body.result.now c.args.fields.now c.deref_mut.result.now c.self.inside.cells.items _ after c.self.view_is c.body.ensures.meaning c.deref_mut.ensures.value marks c.run_block.ensures)
 
 pub returns-clause-cells : goal.returns-clause-cells
 returns-clause-cells c =
@@ -31,7 +31,7 @@ returns-clause-cells c =
     let cells =
     with_items_is c.self.inside.cells c.run_block.new.cells kept
     ∙ ap (λ (s : State). s.store.cells)
-    (executed_is checked c.args.self.now c.body.result.now c.args.fields.now c.deref_mut.result.now c.self.inside.cells.items _ after c.self.view_is c.body.ensures.keeps.indexed c.body.ensures.body c.deref_mut.ensures.value marks c.run_block.ensures) in
+    (executed_is checked c.args.self.now c.body.result.now c.args.fields.now c.deref_mut.result.now c.self.inside.cells.items _ after c.self.view_is c.body.ensures.meaning c.deref_mut.ensures.value marks c.run_block.ensures) in
     (λ i. record { program = program i; cells = cells i })
 
 -- the cells stay as many as are declared
@@ -63,4 +63,4 @@ returns-clause-touched c =
     let marks : take (length infos) (replicate 16 false) ≡ untouched (names_of checked) = take-replicate (length infos) 16 false few ∙ untouched_is checked infos c.arrays-count.ensures.arrays in
     c.set_of.ensures
     ∙ ap (λ (s : State). bits s.touched)
-    (executed_is checked c.args.self.now c.body.result.now c.args.fields.now c.deref_mut.result.now c.self.inside.cells.items _ after c.self.view_is c.body.ensures.keeps.indexed c.body.ensures.body c.deref_mut.ensures.value marks c.run_block.ensures)
+    (executed_is checked c.args.self.now c.body.result.now c.args.fields.now c.deref_mut.result.now c.self.inside.cells.items _ after c.self.view_is c.body.ensures.meaning c.deref_mut.ensures.value marks c.run_block.ensures)
