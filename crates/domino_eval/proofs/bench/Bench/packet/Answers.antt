@@ -47,7 +47,7 @@ invariant_of-self c =
     let cells =
     with_items_is c.self.inside.cells c.run_block.new.cells kept
     ∙ ap (λ (s : State). s.store.cells)
-    (executed_is checked held c.body.result.now c.args.fields.now c.deref_mut.result.now c.self.inside.cells.items _ after c.self.view_is c.body.ensures.keeps.indexed c.body.ensures.body c.deref_mut.ensures.value marks c.run_block.ensures) in
+    (executed_is checked held c.body.result.now c.args.fields.now c.deref_mut.result.now c.self.inside.cells.items _ after c.self.view_is c.body.ensures.meaning c.deref_mut.ensures.value marks c.run_block.ensures) in
     let has : HasCells (names_of held.program) held.cells = subst (λ (b : Held). HasCells (names_of b.program) b.cells) c.self.view_is c.self.invariant in
     let has_after : HasCells (names_of held.program) (executed held c.args.fields.now).store.cells =
     exec_has_cells (names_of held.program) held.program.function.body (state c.args.fields.now held.cells (untouched (names_of held.program))) has in
