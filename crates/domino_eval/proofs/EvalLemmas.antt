@@ -1,5 +1,5 @@
 -- Words of a list of expressions, and the places of cells.
-use Rattle.std.proofs.Common.{◌≡◌, ℕ, zero, suc, ℤ, pos, negsuc, ◌+◌, ◌-◌, ◌^◌, ◌<◌, ◌≤◌, lit<, lit≤, Bool, true, false, if◌then◌else◌, List, [], ◌∷◌, ◌++◌, length, map, flat_map, take, drop, replicate, get_or, slice_set, None, Some, Option, refl, sym, ap, ◌∙◌, arith}
+use Rattle.std.proofs.Common.{◌≡◌, ℕ, zero, suc, ℤ, pos, negsuc, ◌+◌, ◌-◌, ◌^◌, ◌<◌, ◌≤◌, lit<, lit≤, Bool, true, false, if◌then◌else◌, List, [], ◌∷◌, ◌++◌, length, map, flat_map, take, drop, replicate, get_or, slice_set, slice_index, None, Some, Option, refl, sym, ap, ◌∙◌, arith}
 use Rattle.std.proofs.lemmas.List.{append-nil, map-append, length-map, length-drop, get_or-map, get_or_past, take_more, drop_more, drop_all, take_all}
 use Rattle.std.proofs.lemmas.List.Sums.{fold-append}
 use Rattle.std.proofs.lemmas.Grind.{flat_map-append}
@@ -8,8 +8,8 @@ use Rattle.std.specs.Int.{from_bool}
 use Rattle.mp5_words.specs.Words.{cell, hash}
 use Rattle.mp5_words.specs.declared.hashing.HashKind.{HashKind}
 use Rattle.domino_tree.specs.declared.program.Program.{Program}
-use Rattle.domino_tree.specs.Value.{Array, names_of}
-use Rattle.mp5_words.specs.Cells.{word_at, touching, hash_all, bits}
+use Rattle.domino_tree.specs.Value.{Names, Array, names_of, cell_counts, HasCells}
+use Rattle.mp5_words.specs.Cells.{word_at, cells_at, touching, hash_all, bits}
 use Rattle.domino_tree.specs.Execution.{State, Does, Choice, touch, at_last, chosen}
 use Rattle.domino_tree.specs.Sequential.{start_cells, untouched}
 use Rattle.domino_check.specs.declared.numbered.CheckedStmt.{CheckedStmt}
@@ -191,3 +191,20 @@ executed_is p bench body fields cells held_cells touched after view meaning cell
     ∙ (λ i. numbered_exec (indexing p) body (state fields (cells_are i) (marks i)))
     ∙ meaning (state fields held_cells (untouched (names_of p)))
     ∙ ap (λ (b : Held). executed b fields) view
+
+-- ---- the shape of the cells
+
+-- as many arrays have cells as are declared
+pub rows_there : (names : Names) (cells : List (List ℤ)) (array : ℕ) → HasCells names cells → array < length names.arrays → array < length cells
+rows_there names cells array has there = omega (arith, there, ap (λ l. length l) has, length-map cells (λ (c : List ℤ). length c), length-map names.arrays (λ (d : Array). d.length))
+
+-- and each as many as it is declared with
+pub cell_there : (names : Names) (cells : List (List ℤ)) (array i : ℕ) → HasCells names cells → array < length names.arrays → i < slice_index (cell_counts names) array → i < length (cells_at cells array)
+cell_there names cells array i has there within =
+    omega (arith, within, ap (λ l. slice_index l array) has, get_or-map (λ (c : List ℤ). length c) cells array [] 0 (rows_there names cells array has there))
+
+-- the cells of an array that is there
+pub row_is : (cells : List (List ℤ)) (array : ℕ) (row : List ℤ) → array < length cells → row ≡ get_or cells array row → row ≡ cells_at cells array
+row_is [] array row there is = absurd (omega (arith, there))
+row_is (c ∷ cells) zero row there is = is
+row_is (c ∷ cells) (suc array) row there is = row_is cells array row (omega (arith, there)) is

@@ -1,5 +1,5 @@
-ghost use Rattle.std.specs.Prelude.{◌≡◌, ◌<◌, ◌≤◌, length, IfOk};
-ghost use Rattle.domino_tree.specs.Value.{names_of};
+ghost use Rattle.std.specs.Prelude.{◌≡◌, ◌<◌, ◌≤◌, length, slice_index, IfOk};
+ghost use Rattle.domino_tree.specs.Value.{names_of, cell_counts};
 ghost use Rattle.mp5_words.specs.Cells.{word_at, cells_at, bits};
 ghost use Rattle.domino_tree.specs.Sequential.{start_cells};
 ghost use Rattle.domino_eval.specs.Parts.{executed};
@@ -12,7 +12,8 @@ use std::alloc::{AllocError, Global};
 use std::marker::Model;
 
 /// The cells of a program's register arrays, while its transaction is executed on one packet after another.
-/// Seen as the program, and a list of words for each array, in order of declaration.
+/// Seen as the program, and a list of words for each array, in order of declaration: as many as the array is
+/// declared with.
 #[derive(Drop)]
 pub struct Bench<'a> {
     checked: &'a Checked,
@@ -20,6 +21,7 @@ pub struct Bench<'a> {
 }
 
 impl<'a> Model for Bench<'a> {
+    ghost use Rattle.domino_tree.specs.Value.{names_of, HasCells};
     ghost use Rattle.domino_eval.specs.Parts.{Held, held_code};
 
     ghost Value = { Held };
@@ -27,6 +29,8 @@ impl<'a> Model for Bench<'a> {
     ghost coded = { held_code };
 
     ghost view = { λ b. record { program = b.checked.now; cells = b.cells.items } };
+
+    ghost invariant = { λ b. HasCells (names_of b.checked.now) b.cells.items };
 }
 
 impl<'a> Bench<'a> {
@@ -60,8 +64,8 @@ impl<'a> Bench<'a> {
 
     /// Cell `i` of an array.
     pub fn cell(&self, array: u32, i: u32) -> i32
-        requires array { array < length self.now.cells }
-        requires cell { i < length (cells_at self.now.cells array) }
+        requires array { array < length (names_of self.now.program).arrays }
+        requires cell { i < slice_index (cell_counts (names_of self.now.program)) array }
         ensures { result ≡ word_at (cells_at self.now.cells array) i }
     {
         self.cells[array as usize].as_slice()[i as usize]

@@ -1,6 +1,6 @@
 -- The parser of programs decides the grammar, tells the place of an error, and no token list has two trees.
 use mathlib.Core.HLevel.{Σ_prop_path}
-use Rattle.std.proofs.Common.{◌≡◌, ◌<◌, ◌≤◌, ◌+◌, ◌-◌, ℕ, true, ◌&&◌, List, [], ◌∷◌, ◌++◌, length, take, drop, length-drop, inl, inr, Option, Some, None, Ok, Err, IfOk, refl, ap, sym, subst, ◌∙◌, append_assoc, length-append, arith}
+use Rattle.std.proofs.Common.{◌≡◌, ◌<◌, ◌≤◌, ◌+◌, ◌-◌, ℕ, true, ◌&&◌, List, [], ◌∷◌, ◌++◌, length, take, drop, length-drop, ◌⊎◌, inl, inr, Option, Some, None, Ok, Err, IfOk, refl, ap, sym, subst, ◌∙◌, append_assoc, length-append, arith}
 use Rattle.std.proofs.Math.Bool.{Bool-set}
 use Rattle.std.specs.List.{list_all}
 use Rattle.std.proofs.lemmas.Bool.{and_from, and_parts}
@@ -17,15 +17,17 @@ use Rattle.domino_tree.specs.declared.program.Start.TheVariants as starts
 use Rattle.domino_tree.specs.declared.program.Item.{Item}
 use Rattle.domino_tree.specs.declared.program.Item.TheVariants as items_of
 use Rattle.domino_tree.specs.declared.program.Program.{Program}
-use Rattle.domino_tree.specs.Grammar.{is_name, is_size, is_length, length_tokens, is_start, is_item, packet_tokens, is_packet, function_tokens, is_function, is_program, program_tokens}
+use Rattle.domino_tree.specs.Grammar.{is_name, is_size, is_length, length_tokens, is_start, is_item, packet_tokens, is_packet, function_tokens, is_function, is_program, program_tokens, are_words}
 use Rattle.domino_tree.specs.Weight.{is_light}
-use Rattle.domino_tree.specs.Derives.{IsValue, IsEntry, IsStart, IsItem, AreItems, none, more, Derives, Begins}
+use Rattle.domino_tree.specs.Derives.{IsValue, IsEntry, IsStart, IsItem, AreItems, none, more, Tree, DerivesTree, Derives, Begins}
 use Rattle.domino_syntax.specs.Tokens.{is_token}
 use Rattle.domino_syntax.specs.Parsers.{Outcome, Parser, first, and_then, pure, end}
 use Rattle.domino_syntax.specs.ReadingPrograms.{items, packet, function, parts}
 use Rattle.domino_syntax.specs.Stuck.{IsStuckAt}
 use Rattle.domino_syntax.proofs.Exact.{Named, Breaks, whole_sound, whole_breaks, whole_unique}
 use Rattle.domino_syntax.proofs.NamedTokens.{program_named}
+use Rattle.domino_syntax.proofs.Weighing.{canonical_light}
+use Rattle.domino_syntax.proofs.WordTokens.{canonical_words}
 use Rattle.domino_syntax.proofs.ExactPrograms.{Four, PartsForm, exact_parts}
 
 -- ---- what is read is read to the end
@@ -157,26 +159,62 @@ parts_named tokens x h =
 
 -- ---- one tree
 
+abbrev pub tree_of : Four → Tree
+tree_of x = record { before = x.0; packet = x.1; after = x.2; function = x.3 }
+
+abbrev parts_of : Tree → Four
+parts_of t = (t.before, t.packet, t.after, t.function)
+
+pub one_tree : (tokens : List Token) (a b : Tree) → DerivesTree tokens a → DerivesTree tokens b → a ≡ b
+one_tree tokens a b derived_a derived_b =
+    ap tree_of (whole_unique (exact_parts (length tokens)) refl tokens (omega arith) (parts_named tokens (parts_of a) derived_a) (parts_of a) (parts_of b) derived_a derived_b)
+
+-- ---- one program
+
 abbrev four_of : Program → Four
 four_of p = (p.before, p.packet, p.after, p.function)
 
--- the parts stand in a program, and are light
+-- the parts stand in a program, and their canonical tokens are light and words
 abbrev Fits : Four → Type 0
-Fits x = (is_program x.0 x.1 x.2 x.3 ≡ true) × (is_light (program_tokens x.0 x.1 x.2 x.3) ≡ true)
+Fits x = (is_program x.0 x.1 x.2 x.3 ≡ true) × (is_light (program_tokens x.0 x.1 x.2 x.3) ≡ true) × (are_words (program_tokens x.0 x.1 x.2 x.3) ≡ true)
 
 abbrev packed : (x : Four) × Fits x → Program
-packed s = record { before = s.0.0; packet = s.0.1; after = s.0.2; function = s.0.3; derived = s.1.0; light = s.1.1 }
+packed s = record { before = s.0.0; packet = s.0.1; after = s.0.2; function = s.0.3; derived = s.1.0; light = s.1.1; words = s.1.2 }
 
 fits_once : (x : Four) → IsProp (Fits x)
 fits_once x = hlevel Bool-set
 
 same_program : (p q : Program) → four_of p ≡ four_of q → p ≡ q
 same_program p q same =
-    let s : (x : Four) × Fits x = (four_of p, (p.derived, p.light)) in
-    let t : (x : Four) × Fits x = (four_of q, (q.derived, q.light)) in
+    let s : (x : Four) × Fits x = (four_of p, (p.derived, p.light, p.words)) in
+    let t : (x : Four) × Fits x = (four_of q, (q.derived, q.light, q.words)) in
     let e : s ≡ t = Σ_prop_path (λ (x : Four). fits_once x) same in
     ap packed e
 
-pub one_tree : (tokens : List Token) (p q : Program) → Derives tokens p → Derives tokens q → p ≡ q
-one_tree tokens p q derived_p derived_q =
-    same_program p q (whole_unique (exact_parts (length tokens)) refl tokens (omega arith) (parts_named tokens (four_of p) derived_p) (four_of p) (four_of q) derived_p derived_q)
+pub one_program : (tokens : List Token) (p q : Program) → Derives tokens p → Derives tokens q → p ≡ q
+one_program tokens p q derived_p derived_q =
+    same_program p q (ap parts_of (one_tree tokens (tree_of (four_of p)) (tree_of (four_of q)) derived_p derived_q))
+
+-- ---- each list is derived or stuck
+
+-- the program of parts that are derived from light tokens and words
+pub program_of : (tokens : List Token) (x : Four) → is_light tokens ≡ true → are_words tokens ≡ true → PartsForm tokens x → (p : Program) × Derives tokens p
+program_of tokens x light words h = (
+  record {
+    before = x.0;
+    packet = x.1;
+    after = x.2;
+    function = x.3;
+    derived = h.stands;
+    light = canonical_light tokens x.0 x.1 x.2 x.3 light h;
+    words = canonical_words tokens x.0 x.1 x.2 x.3 words h;
+  },
+  h,
+)
+
+pub derived_or_stuck : (tokens : List Token) → Named tokens → is_light tokens ≡ true → are_words tokens ≡ true → ((p : Program) × Derives tokens p) ⊎ ((n : ℕ) × IsStuckAt tokens n)
+derived_or_stuck tokens named light words = by_outcome (parts (length tokens) tokens) refl
+  where
+    by_outcome : (o : Outcome Four) → parts (length tokens) tokens ≡ o → ((p : Program) × Derives tokens p) ⊎ ((n : ℕ) × IsStuckAt tokens n)
+    by_outcome (Ok r) e = inl (program_of tokens r.0 light words (parts_sound tokens r.1 r.0 named e))
+    by_outcome (Err rest) e = inr (length tokens - length rest, refused_at tokens rest named e)

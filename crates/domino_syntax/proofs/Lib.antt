@@ -14,6 +14,7 @@ pub mod Weighing
 pub mod TokenText
 pub mod NamedTokens
 pub mod PrintedText
+pub mod WordTokens
 pub mod Deciding
 pub mod ExpressionsStops
 pub mod ExpressionsForms

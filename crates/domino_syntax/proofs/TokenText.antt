@@ -17,13 +17,12 @@ use Rattle.domino_tree.specs.declared.token.Keyword.{Keyword}
 use Rattle.domino_tree.specs.declared.token.Keyword.TheVariants as keyword
 use Rattle.domino_tree.specs.declared.token.Token.{Token}
 use Rattle.domino_tree.specs.declared.token.Token.TheVariants as token
-use Rattle.domino_tree.specs.Grammar.{is_word_byte, is_reserved, is_name}
+use Rattle.domino_tree.specs.Grammar.{is_word_token, is_word_byte, is_reserved, is_name}
 use Rattle.domino_tree.specs.Text.{keyword_text, sign_text, token_text}
 use Rattle.domino_syntax.specs.declared.lex.Piece.{Piece}
 use Rattle.domino_syntax.specs.declared.lex.Piece.TheVariants as piece_of
 use Rattle.domino_syntax.specs.Tokens.{are_digits, is_decimal, is_hexadecimal, bounded, number, name, word_token, word_at, piece_from, is_white, sign_of_one, sign_of_two, sign_at, hash_at, slash_at, piece, is_token}
-use Rattle.domino_syntax.specs.Printing.{IsWordToken}
-use Rattle.domino_syntax.proofs.LexLemmas.{bounded_of}
+use Rattle.domino_syntax.proofs.LexLemmas.{word_fits, bounded_of}
 
 -- a space, or the end of a line
 abbrev pub gap : Bool → ℕ
@@ -249,9 +248,9 @@ number_piece z g rest fits =
 -- ---- any token
 
 -- a token's text, where a space or the end of a line follows it, is the piece at the front
-pub token_piece : (t : Token) (g : Bool) (rest : List ℕ) → is_token t ≡ true → IsWordToken t → piece (token_text t ++ gap g ∷ rest) ≡ piece_of.Token t (length (token_text t))
+pub token_piece : (t : Token) (g : Bool) (rest : List ℕ) → is_token t ≡ true → is_word_token t ≡ true → piece (token_text t ++ gap g ∷ rest) ≡ piece_of.Token t (length (token_text t))
 token_piece (token.Name w) g rest is word = name_piece w g rest is
 token_piece (token.Keyword k) g rest is word = keyword_piece k g rest
 token_piece token.Define g rest is word = define_piece g rest
-token_piece (token.Number z) g rest is word = number_piece z g rest word
+token_piece (token.Number z) g rest is word = number_piece z g rest (word_fits z word)
 token_piece (token.Sign s) g rest is word = sign_piece s g rest

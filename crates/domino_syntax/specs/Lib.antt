@@ -6,7 +6,6 @@ pub mod Cutting
 pub mod Pieces
 pub mod Parsers
 pub mod Weighing
-pub mod Printing
 pub mod ReadingExpressions
 pub mod ReadingPrograms
 pub mod Stuck

@@ -6,8 +6,7 @@ use Rattle.domino_tree.specs.Derives.{Derives}
 use Rattle.domino_tree.specs.Weight.{is_light}
 use Rattle.domino_syntax.specs.declared.fault.TextFault.{TextFault}
 use Rattle.domino_syntax.specs.declared.fault.TextFault.TheVariants as fault
-use Rattle.domino_syntax.specs.Tokens.{cut}
-use Rattle.domino_syntax.specs.Pieces.{ArePieces}
+use Rattle.domino_syntax.specs.Pieces.{ArePieces, IsBadAt}
 use Rattle.domino_syntax.specs.Weighing.{IsHeavyAt}
 use Rattle.domino_syntax.specs.Stuck.{IsStuckAt}
 
@@ -40,7 +39,7 @@ pub record IsStuckText (text : List ℕ) (n : ℕ) : Type 0 where
 -- text
 abbrev pub Refuses : List ℕ → TextFault → Type 0
 Refuses text (fault.TooLong n) = (n ≡ length text) × (65536 < n)
-Refuses text (fault.BadToken at) = (length text ≤ 65536) × (cut text ≡ Err at)
+Refuses text (fault.BadToken at) = (length text ≤ 65536) × IsBadAt text at
 Refuses text (fault.TooDeep n) = IsHeavyText text n
 Refuses text (fault.Syntax n) = IsStuckText text n
 Refuses text fault.NoMemory = ⊥

@@ -142,10 +142,15 @@ abbrev pub begins_with_slash : List ℕ → Bool
 begins_with_slash [] = false
 begins_with_slash (b ∷ bs) = nat_eq b 47
 
--- the place after the first `*/`, for a text that begins at this place
-abbrev pub closing : ℕ → List ℕ → Option ℕ
-closing at [] = None
-closing at (b ∷ bs) = if nat_eq b 42 && begins_with_slash bs then Some (at + 2) else closing (at + 1) bs
+-- so many bytes further on
+abbrev pub further : ℕ → Option ℕ → Option ℕ
+further n None = None
+further n (Some k) = Some (n + k)
+
+-- how many bytes a text has up to the end of its first `*/`
+abbrev pub closing : List ℕ → Option ℕ
+closing [] = None
+closing (b ∷ bs) = if nat_eq b 42 && begins_with_slash bs then Some 2 else further 1 (closing bs)
 
 -- `/*` and so many bytes up to its end; a comment that isn't closed is no piece
 abbrev pub comment_to : Option ℕ → Piece
@@ -156,7 +161,7 @@ comment_to (Some end) = piece_of.Skip (end + 2)
 abbrev pub slash_at : List ℕ → Piece
 slash_at [] = piece_of.Bad
 slash_at (a ∷ []) = sign_at (a ∷ [])
-slash_at (a ∷ b ∷ bs) = if nat_eq b 42 then comment_to (closing 0 bs) else (if nat_eq b 47 then line_behind 2 bs else sign_at (a ∷ b ∷ bs))
+slash_at (a ∷ b ∷ bs) = if nat_eq b 42 then comment_to (closing bs) else (if nat_eq b 47 then line_behind 2 bs else sign_at (a ∷ b ∷ bs))
 
 -- what begins with `#`: `#define`, or `#include` with the rest of its line; no name goes on behind them
 abbrev pub hash_at : List ℕ → Piece
@@ -182,36 +187,6 @@ piece (b ∷ bs) =
     if is_word_byte b then piece_from (prefix_len is_word_byte (b ∷ bs)) (word_token (word_at (b ∷ bs))) else (
     if nat_eq b 35 then hash_at (b ∷ bs) else (
     if nat_eq b 47 then slash_at (b ∷ bs) else sign_at (b ∷ bs))))
-
--- tokens in front of those that follow
-abbrev pub with_front : List Token → Result (List Token) (List ℕ) → Result (List Token) (List ℕ)
-with_front front (Ok ts) = Ok (front ++ ts)
-with_front front (Err rest) = Err rest
-
--- what a text gives from the piece at its front, where what follows gives its own
-abbrev pub followed : (List ℕ → Result (List Token) (List ℕ)) → List ℕ → Piece → Result (List Token) (List ℕ)
-followed later text piece_of.End = Ok []
-followed later text (piece_of.Skip n) = later (drop n text)
-followed later text (piece_of.Token t n) = with_front (t ∷ []) (later (drop n text))
-followed later text piece_of.Bad = Err text
-
--- the tokens of a text of at most n bytes, or the text from the place on where no piece begins
-unfoldable pub lexed : ℕ → List ℕ → Result (List Token) (List ℕ)
-lexed zero text = followed (λ rest. Err rest) text (piece text)
-lexed (suc n) text = followed (lexed n) text (piece text)
-
--- the tokens of a text, or the text from the place on where no piece begins
-abbrev pub tokens : List ℕ → Result (List Token) (List ℕ)
-tokens text = lexed (length text) text
-
--- the place where what is left of a text begins
-abbrev pub placed : List ℕ → Result (List Token) (List ℕ) → Result (List Token) ℕ
-placed text (Ok ts) = Ok ts
-placed text (Err rest) = Err (length text - length rest)
-
--- the tokens of a text, or the first place where no piece begins
-abbrev pub cut : List ℕ → Result (List Token) ℕ
-cut text = placed text (tokens text)
 
 -- a name token has a name's bytes
 abbrev pub is_token : Token → Bool

@@ -283,7 +283,7 @@ fn begins_with_slash(text: &[u8]) -> bool
 
 /// How many bytes a text has up to the end of its first `*/`, or `None` where it has none.
 fn closing(text: &[u8]) -> Option<usize>
-    ensures value { result ≡ spec.closing 0 text.now }
+    ensures value { result ≡ spec.closing text.now }
     ensures within { IfSome result (λ end. end ≤ length text.now) }
 {
     let mut at = 0;

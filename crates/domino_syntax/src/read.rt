@@ -1,12 +1,11 @@
-ghost use Rattle.std.specs.Prelude.{◌≡◌, ◌≢◌, ◌≤◌, ℕ, List, length, IfOk, IfErr};
+ghost use Rattle.std.specs.Prelude.{◌≡◌, ◌≢◌, ◌<◌, ◌≤◌, ◌^◌, ◌⊎◌, ℕ, List, length, IfOk, IfErr};
 ghost use Rattle.domino_tree.specs.declared.token.Token.{Token};
 ghost use Rattle.domino_tree.specs.declared.program.Program.{Program};
-ghost use Rattle.domino_tree.specs.Derives.{Derives};
-ghost use Rattle.domino_tree.specs.Grammar.{program_tokens};
+ghost use Rattle.domino_tree.specs.Derives.{Tree, DerivesTree};
 ghost use Rattle.domino_tree.specs.Text.{text_of};
+ghost use Rattle.domino_tree.specs.Count.{count_of};
 ghost use Rattle.domino_syntax.specs.declared.fault.TextFault.{TextFault};
 ghost use Rattle.domino_syntax.specs.declared.fault.TextFault.TheVariants as fault;
-ghost use Rattle.domino_syntax.specs.Printing.{AreWords};
 ghost use Rattle.domino_syntax.specs.ProgramText.{IsProgramText, Refuses, IsReadAs, IsRefusedFor};
 
 use crate::fault::TextFault;
@@ -41,6 +40,8 @@ fn read_short(alloc: Global, text: &[u8]) -> Result<Program, TextFault>
 pub fn read_program(alloc: Global, text: &[u8]) -> Result<Program, TextFault>
     // What is read is the program that the grammar derives from the text's tokens.
     ensures read { IfOk result (λ program. IsProgramText text.now program) }
+    // The count of its transaction fits 32 bits.
+    ensures counted { IfOk result (λ program. count_of program < 2 ^ 32) }
     // A text is refused only for what it is refused for, or for want of memory.
     ensures refused { IfErr result (λ f. f ≢ fault.NoMemory → Refuses text.now f) }
     // A program's text is read to it, unless memory runs out.
@@ -49,19 +50,28 @@ pub fn read_program(alloc: Global, text: &[u8]) -> Result<Program, TextFault>
     ensures refuses { (f : TextFault) → Refuses text.now f → IsRefusedFor result f }
     // What `print` writes of a program is read to it, where it has at most 65,536 bytes.
     ensures printed { (program : Program)
-        → AreWords (program_tokens program.before program.packet program.after program.function)
         → text.now ≡ text_of program
         → length text.now ≤ 65536
         → IsReadAs result program }
-    // No token list derives two programs.
-    ensures one_tree { (tokens : List Token) (p q : Program)
-        → Derives tokens p
-        → Derives tokens q
+    // Each text is a program's, or is refused for something.
+    ensures decides { (all : List ℕ)
+        → ((program : Program) × IsProgramText all program) ⊎ ((f : TextFault) × Refuses all f) }
+    // No text is both, or two programs', or refused for two reasons or at two places.
+    ensures one_answer { (all : List ℕ) (program : Program) (f : TextFault)
+        → IsProgramText all program
+        → ¬ Refuses all f }
+    ensures one_program { (all : List ℕ) (p q : Program)
+        → IsProgramText all p
+        → IsProgramText all q
         → p ≡ q }
-    // No text is refused for two reasons, or at two places.
     ensures one_refusal { (all : List ℕ) (a b : TextFault)
         → Refuses all a
         → Refuses all b
+        → a ≡ b }
+    // No token list derives two trees, whatever it weighs.
+    ensures one_tree { (tokens : List Token) (a b : Tree)
+        → DerivesTree tokens a
+        → DerivesTree tokens b
         → a ≡ b }
 {
     if MAX_TEXT < text.len() {

@@ -3,6 +3,7 @@ pub mod CountLemmas
 pub mod CountRows
 pub mod ExecutionLemmas
 pub mod ExprLemmas
+pub mod ShapeLemmas
 pub mod StmtLemmas
 pub mod TextLemmas
 pub mod ValueLemmas

@@ -1,6 +1,7 @@
 -- The grammar as a relation between a token list and the four parts of a program. Only a value in an item has
 -- two spellings: a number, or `-` and a number. All else has the tokens of its forms, one after another. The
--- weight has no part in it: the type of programs keeps the parts whose canonical tokens are light.
+-- weight has no part in it: the type of programs keeps the parts whose canonical tokens are light and whose
+-- numbers have 32 bits.
 use Rattle.std.specs.Prelude.{◌≡◌, ◌⊎◌, ℕ, ℤ, true, Option, List, [], ◌∷◌, ◌++◌}
 use Rattle.mp5_words.specs.Words.{op1}
 use Rattle.mp5_words.specs.declared.op.Op1.TheVariants.{Neg}
@@ -82,6 +83,17 @@ pub record Parts (tokens : List Token) (before : List Item) (packet : PacketDecl
   pub items_before : AreItems front before
   pub items_after : AreItems middle after
   pub stands : is_program before packet after function ≡ true
+
+-- the four parts as one, whatever they weigh
+pub record Tree : Type 0 where
+  pub before : List Item
+  pub packet : PacketDecl
+  pub after : List Item
+  pub function : Function
+
+-- the grammar derives these tokens to this tree
+abbrev pub DerivesTree : List Token → Tree → Type 0
+DerivesTree tokens tree = Parts tokens tree.before tree.packet tree.after tree.function
 
 -- the grammar derives these tokens to this program
 abbrev pub Derives : List Token → Program → Type 0

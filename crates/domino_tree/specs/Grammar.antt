@@ -3,7 +3,7 @@
 -- 10 are the operators between two expressions, 11 is an operator before one, and all else stands anywhere.
 -- Operators between two associate to the left: on the left stands an operand of their own level, on the
 -- right one of the next.
-use Rattle.std.specs.Prelude.{ℕ, suc, Bool, true, false, not, nat_eq, ◌&&◌, ◌||◌, nat_le, List, [], ◌∷◌, ◌++◌, map, flat_map, codes, Option, Some, None}
+use Rattle.std.specs.Prelude.{ℕ, suc, ℤ, pos, negsuc, Bool, true, false, not, nat_eq, nat_lt, ◌&&◌, ◌||◌, nat_le, List, [], ◌∷◌, ◌++◌, map, flat_map, codes, Option, Some, None}
 use Rattle.std.specs.List.{list_all}
 use Rattle.std.specs.Str.{bytes_eq}
 use Rattle.std.specs.Char.{is_ascii_alphabetic, is_ascii_alphanumeric}
@@ -46,6 +46,25 @@ is_reserved name = bytes_eq name (codes "struct") || (bytes_eq name (codes "int"
 unfoldable pub is_name : List ℕ → Bool
 is_name [] = false
 is_name (b ∷ bs) = (is_ascii_alphabetic b || nat_eq b 95) && (list_all is_word_byte bs && not (is_reserved (b ∷ bs)))
+
+-- ---- numbers
+
+-- a number of 32 bits
+abbrev pub is_word : ℤ → Bool
+is_word (pos n) = nat_lt n 2147483648
+is_word (negsuc n) = nat_lt n 2147483648
+
+-- where the token is a number, it has 32 bits
+abbrev pub is_word_token : Token → Bool
+is_word_token (token.Name w) = true
+is_word_token (token.Keyword k) = true
+is_word_token token.Define = true
+is_word_token (token.Number n) = is_word n
+is_word_token (token.Sign s) = true
+
+-- each number among the tokens has 32 bits
+abbrev pub are_words : List Token → Bool
+are_words tokens = list_all is_word_token tokens
 
 -- ---- expressions
 

@@ -11,7 +11,7 @@ use Rattle.domino_tree.specs.declared.token.Sign.{Sign}
 use Rattle.domino_tree.specs.declared.token.Sign.TheVariants as sign
 use Rattle.domino_tree.specs.declared.program.Item.{Item}
 use Rattle.domino_tree.specs.declared.program.Program.{Program}
-use Rattle.domino_tree.specs.Grammar.{item_tokens, packet_tokens, function_tokens}
+use Rattle.domino_tree.specs.Grammar.{item_tokens, packet_tokens, function_tokens, program_tokens}
 
 -- the letters of a reserved name
 abbrev pub keyword_text : Keyword → List ℕ
@@ -90,6 +90,10 @@ written_line text (t ∷ ts) = written (text ++ token_text t) ts ++ (10 ∷ [])
 -- the line of an item
 abbrev pub item_line : Item → List ℕ
 item_line i = line (item_tokens i)
+
+-- the canonical tokens
+abbrev pub canonical_tokens : Program → List Token
+canonical_tokens p = program_tokens p.before p.packet p.after p.function
 
 -- the canonical text
 abbrev pub text_of : Program → List ℕ

@@ -1,5 +1,5 @@
 -- The value of an expression, with the fields of a packet and the cells of the registers.
-use Rattle.std.specs.Prelude.{ℕ, suc, ℤ, pos, if◌then◌else◌, List, [], ◌∷◌, ◌++◌, map, flat_map, codes, Option, Some, None}
+use Rattle.std.specs.Prelude.{◌≡◌, length, ℕ, suc, ℤ, pos, if◌then◌else◌, List, [], ◌∷◌, ◌++◌, map, flat_map, codes, Option, Some, None}
 use Rattle.std.specs.List.{slice_index_or}
 use Rattle.std.specs.Str.{bytes_eq}
 use Rattle.mp5_words.specs.Words.{op1, op2, cell}
@@ -107,6 +107,14 @@ array_length names a = slice_index_or (map (λ (d : Array). d.length) names.arra
 pub record Store : Type 0 where
   pub fields : List ℤ
   pub cells : List (List ℤ)
+
+-- how many cells each array has
+abbrev pub cell_counts : Names → List ℕ
+cell_counts names = map (λ (d : Array). d.length) names.arrays
+
+-- each array has as many cells as it is declared with
+abbrev pub HasCells : Names → List (List ℤ) → Type 0
+HasCells names cells = map (λ (c : List ℤ). length c) cells ≡ cell_counts names
 
 -- a cell of an array
 abbrev pub cell_at : Names → List ℕ → ℕ → Store → ℤ

@@ -2,7 +2,8 @@
 ghost use Rattle.std.specs.Prelude.{◌≡◌, ◌++◌, ◌∷◌, [], IfOk, OnOk, Some, flat_map, map, length, Option, List};
 ghost use Rattle.domino_tree.specs.declared.token.Token.TheVariants as Token;
 ghost use Rattle.domino_tree.specs.declared.token.Sign.TheVariants.{Assign, Semicolon};
-ghost use Rattle.domino_tree.specs.Text.{sign_text, keyword_text, added, written, written_line, item_line, text_of};
+ghost use Rattle.domino_tree.specs.Text.{sign_text, keyword_text, added, written, written_line, item_line, canonical_tokens, text_of};
+ghost use Rattle.domino_tree.specs.Derives.{Derives};
 ghost use Rattle.domino_tree.specs.Grammar.{sign_before as sign_before_of, sign_of, spelled, in_round, in_square, block_tokens, separated, with_commas, field_tokens, target_tokens, stmt_tokens, arm_tokens, with_elses, chained, last_block, size_tokens, length_tokens, start_tokens, item_tokens, declaration, packet_tokens, function_tokens};
 
 use crate::expr::Expr;
@@ -411,8 +412,11 @@ fn put_function(out: &mut Vec<u8>, function: &Function) -> Result<(), AllocError
 
 /// The canonical text of a program: its canonical tokens, each number an unsigned decimal, with a space
 /// between. Each item, the struct and the function is a line of its own.
+#[tactic(auto, using(crate::proofs::Canonical::canonical))]
 pub fn print(alloc: Global, program: &Program) -> Result<Vec<u8>, NoMemory>
-    ensures { IfOk result (λ text. text.items ≡ text_of program.now) }
+    ensures text { IfOk result (λ text. text.items ≡ text_of program.now) }
+    // The grammar derives the canonical tokens to the program.
+    ensures derives { Derives (canonical_tokens program.now) program.now }
 {
     let mut out = Vec::new(alloc);
     put_items(&mut out, program.before.as_slice())?;

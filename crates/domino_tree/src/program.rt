@@ -1,5 +1,5 @@
 ghost use Rattle.std.specs.Prelude.{◌≡◌, true};
-ghost use Rattle.domino_tree.specs.Grammar.{is_program, program_tokens};
+ghost use Rattle.domino_tree.specs.Grammar.{is_program, program_tokens, are_words};
 ghost use Rattle.domino_tree.specs.Weight.{is_light};
 
 use crate::expr::Expr;
@@ -88,7 +88,8 @@ pub struct Function {
 }
 
 /// A program: the items before the struct, the struct, the items after it, and the transaction. The
-/// grammar derives its canonical tokens to it, and their weight never exceeds 64.
+/// grammar derives its canonical tokens to it, their weight never exceeds 64, and each number among them
+/// has 32 bits.
 #[derive(Drop)]
 pub struct Program {
     pub before: Items<Item>,
@@ -97,4 +98,5 @@ pub struct Program {
     pub function: Function,
     ghost derived: { is_program before packet after function ≡ true },
     ghost light: { is_light (program_tokens before packet after function) ≡ true },
+    ghost words: { are_words (program_tokens before packet after function) ≡ true },
 }

@@ -2,6 +2,7 @@ use Rattle.std.proofs.Common.{◌≡◌, ◌-◌, length, Err, ap, sym, subst, �
 use Rattle.domino_syntax.specs.ReadingPrograms.{parts}
 use Rattle.domino_syntax.specs.Stuck.{IsStuckAt}
 use Rattle.domino_syntax.proofs.Weighing.{canonical_light}
+use Rattle.domino_syntax.proofs.WordTokens.{canonical_words}
 use Rattle.domino_syntax.proofs.Deciding as deciding
 use Rattle.domino_syntax.proofs.parse.program.Goals as goal
 
@@ -10,7 +11,7 @@ invariant_of-result c =
     let x = c.in-Ok in
     let tokens = c.args.tokens.now in
     let read = deciding.parts_sound tokens c.parts.new.reader (x.before, x.packet, x.after, x.function) c.requires.named (ap (parts (length tokens)) (sym c.new-reader.ensures) ∙ x.ensures) in
-    record { derived = read.stands; light = canonical_light tokens x.before x.packet x.after x.function c.requires.light read }
+    record { derived = read.stands; light = canonical_light tokens x.before x.packet x.after x.function c.requires.light read; words = canonical_words tokens x.before x.packet x.after x.function c.requires.words read }
 
 pub returns-in-Ok-clause-read : goal.returns-in-Ok-clause-read
 returns-in-Ok-clause-read c =
@@ -40,12 +41,3 @@ returns-in-Err-Syntax-clause-complete c = λ program derived.
     let read = ap (parts (length tokens)) (sym c.new-reader.ensures) ∙ refused in
     absurd (deciding.stuck_none tokens (length tokens - length c.parts.new.reader) program
     (deciding.refused_at tokens c.parts.new.reader c.requires.named read) derived)
-
-pub returns-in-Ok-clause-one_tree : goal.returns-in-Ok-clause-one_tree
-returns-in-Ok-clause-one_tree c = deciding.one_tree
-
-pub returns-in-Err-Syntax-clause-one_tree : goal.returns-in-Err-Syntax-clause-one_tree
-returns-in-Err-Syntax-clause-one_tree c = deciding.one_tree
-
-pub returns-in-Err-NoMemory-clause-one_tree : goal.returns-in-Err-NoMemory-clause-one_tree
-returns-in-Err-NoMemory-clause-one_tree c = deciding.one_tree

@@ -1,8 +1,9 @@
-use Rattle.std.proofs.Common.{◌≤◌, length, ap, ◌∙◌, sym, arith}
+use Rattle.std.proofs.Common.{◌≤◌, [], length, ap, ◌∙◌, sym, arith}
 use Rattle.std.specs.List.{list_all}
 use Rattle.domino_tree.specs.Weight.{is_light}
 use Rattle.domino_syntax.specs.Tokens.{is_token}
-use Rattle.domino_syntax.proofs.LexLemmas.{tokens_are_names}
+use Rattle.domino_tree.specs.Grammar.{are_words}
+use Rattle.domino_syntax.proofs.PieceLemmas.{tokens_are_names, tokens_are_words}
 use Rattle.domino_syntax.proofs.Texts.{has_tokens, place_fits, read_text, refused_text}
 use Rattle.domino_syntax.proofs.read.read_short.Goals as goal
 
@@ -21,7 +22,10 @@ returns-in-Some-clause-refused c = λ other. record {
 }
 
 pub program-requires-clause-named : goal.program-requires-clause-named
-program-requires-clause-named c = ap (list_all is_token) c.deref-2.ensures.value ∙ tokens_are_names c.args.text.now c.in_ok-tokens.tokens.items c.in_ok-tokens.ensures
+program-requires-clause-named c = ap (list_all is_token) c.deref-2.ensures.value ∙ tokens_are_names c.args.text.now [] c.in_ok-tokens.tokens.items c.in_ok-tokens.ensures
+
+pub program-requires-clause-words : goal.program-requires-clause-words
+program-requires-clause-words c = ap are_words c.deref-2.ensures.value ∙ tokens_are_words c.args.text.now [] c.in_ok-tokens.tokens.items c.in_ok-tokens.ensures
 
 pub program-requires-clause-short : goal.program-requires-clause-short
 program-requires-clause-short c =
