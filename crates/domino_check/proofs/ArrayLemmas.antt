@@ -28,6 +28,7 @@ use Rattle.domino_check.proofs.NumberingLemmas as numbering
 use Rattle.domino_check.proofs.UseLemmas.{AllCalls, calls_left, calls_right, body_calls, stmt_uses-Set, stmt_uses-If, stmt_uses-Else, arm_uses-Arm}
 use Rattle.domino_check.proofs.Agreement.{keep_front, keep_back, nowhere, same_value, cell_place}
 use Rattle.domino_check.proofs.IndexLemmas.{IsUntouched, untouched_from_none, none_from_untouched}
+use Rattle.domino_check.proofs.SiteLemmas.{any_append}
 use Rattle.domino_check.proofs.SiteForms.{touches-SetField, touches-SetCell, touches-If, touches-Else, touches-Arm, sites_kept}
 
 -- the arrays of these accesses
@@ -164,14 +165,6 @@ module _ (names : Names) (ix : Indexing) (lengths : (array : List ℕ) → ix.le
   each_together (x ∷ body) = (stmt_together x, each_together body)
 
 -- ---- programs
-
-any_append : (test : ℕ → Bool) (xs ys : List ℕ) → list_any test (xs ++ ys) ≡ (list_any test xs || list_any test ys)
-any_append test [] ys = refl
-any_append test (x ∷ xs) ys = ap (λ t. test x || t) (any_append test xs ys) ∙ sym (or_three (test x) (list_any test xs) (list_any test ys))
-  where
-    or_three : (x y z : Bool) → ((x || y) || z) ≡ (x || (y || z))
-    or_three true y z = refl
-    or_three false y z = refl
 
 -- an array is touched where it is among those that the sites touch
 touched_any : (sites : List Site) (a : ℕ) → is_touched sites a ≡ list_any (λ (b : ℕ). b == a) (touched_arrays (map touch_of sites))

@@ -7,7 +7,7 @@ use Rattle.domino_check.specs.declared.role.Class.{Class}
 use Rattle.domino_check.specs.Uses.{Use, uses_of}
 use Rattle.domino_check.specs.Declarations.{Declaration, kind_in, hash_declarations, declarations}
 use Rattle.domino_check.specs.Checks.{kinds_in}
-use Rattle.domino_check.specs.Tables.{kind_at, Holds}
+use Rattle.domino_check.specs.KindTable.{kind_at, Holds}
 
 -- the table of a program's declarations has the kinds of its names
 pub table_kinds : {S : Type 0} (table : HashMap (Class × Bor (List ℕ)) Kind S) (ds : List Declaration) (p : Program) → ds ≡ declarations p → Holds table (hash_declarations ++ ds) → kind_at table ≡ kinds_in p

@@ -7,7 +7,7 @@ use Rattle.std.proofs.lemmas.Slice.Eq.{bytes_eq-Decides}
 use Rattle.std.proofs.lemmas.List.{flat_map_more, take_more}
 use Rattle.domino_tree.specs.declared.program.Item.{Item}
 use Rattle.domino_tree.specs.Value.{Defined, number_of, item_define}
-use Rattle.domino_check.specs.Numbers.{number_at, Numbers}
+use Rattle.domino_check.specs.DefineTable.{number_at, Numbers}
 
 -- the first number, and else the second
 abbrev either : Option ℤ → Option ℤ → Option ℤ

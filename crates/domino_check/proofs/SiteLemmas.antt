@@ -31,13 +31,18 @@ or_three : (x y z : Bool) → ((x || y) || z) ≡ (x || (y || z))
 or_three true y z = refl
 or_three false y z = refl
 
-or_false : (x : Bool) → x ≡ (x || false)
+pub or_false : (x : Bool) → x ≡ (x || false)
 or_false true = refl
 or_false false = refl
 
 or_true : (x : Bool) → true ≡ (x || true)
 or_true true = refl
 or_true false = refl
+
+-- a test on two lists, one after another
+pub any_append : {X : Type 0} (test : X → Bool) (xs ys : List X) → list_any test (xs ++ ys) ≡ (list_any test xs || list_any test ys)
+any_append test [] ys = refl
+any_append test (x ∷ xs) ys = ap (λ t. test x || t) (any_append test xs ys) ∙ sym (or_three (test x) (list_any test xs) (list_any test ys))
 
 pub length-touching : (arrays : List ℕ) (marks : List Bool) → length (touching arrays marks) ≡ length marks
 length-touching [] marks = refl

@@ -12,7 +12,7 @@ use Rattle.domino_check.specs.declared.role.Class.{Class}
 use Rattle.domino_check.specs.declared.role.Class.TheVariants as class
 use Rattle.domino_check.specs.contracts.role.ClassPartialEq.TheImpl.{ghosts}
 use Rattle.domino_check.specs.Declarations.{Declaration, class_of, is_same_class, declares, kind_in, hash_declarations}
-use Rattle.domino_check.specs.Tables.{kind_at, Holds}
+use Rattle.domino_check.specs.KindTable.{kind_at, Holds}
 
 -- ---- classes
 

@@ -16,7 +16,7 @@ use Rattle.domino_check.specs.Refused.{PassesNames}
 use Rattle.domino_check.specs.Touched.{TouchesBySites}
 use Rattle.domino_check.proofs.Agreement.{agreement}
 use Rattle.domino_check.proofs.MeaningLemmas as meaning
-use Rattle.domino_check.proofs.SiteLemmas.{length-touching, touching_mark}
+use Rattle.domino_check.proofs.SiteLemmas.{any_append, or_false, length-touching, touching_mark}
 use Rattle.domino_check.proofs.SiteForms.{sites-SetField, sites-SetCell, sites-If, sites-Else, sites-Arm}
 use Rattle.domino_check.proofs.TreeLemmas.{stmt_induct}
 
@@ -82,14 +82,6 @@ still : (b : Bool) → Tells b b false false
 still true = record { within = λ h. refl; stays = λ h. h; sure = λ h. refl }
 still false = record { within = λ h. h; stays = λ h. h; sure = λ h. h }
 
-any_append : {X : Type 0} (test : X → Bool) (xs ys : List X) → list_any test (xs ++ ys) ≡ (list_any test xs || list_any test ys)
-any_append test [] ys = refl
-any_append test (x ∷ xs) ys = ap (λ t. test x || t) (any_append test xs ys) ∙ sym (or_three (test x) (list_any test xs) (list_any test ys))
-  where
-    or_three : (x y z : Bool) → ((x || y) || z) ≡ (x || (y || z))
-    or_three true y z = refl
-    or_three false y z = refl
-
 -- ---- sites that a condition decides about
 
 -- behind a condition a list isn't empty
@@ -141,9 +133,6 @@ module _ (ix : Indexing) (a : ℕ) where
     pub tells : Tells (get_or before a false) (get_or after a false) (is_touched sites a) (is_always_touched sites a)
     pub long : length after ≡ length before
 
-  told_at : (before after : List Bool) (xs ys : List Site) → xs ≡ ys → Told before after ys → Told before after xs
-  told_at before after xs ys is h = subst (Told before after) (sym is) h
-
   both_told : (before middle after : List Bool) (xs ys : List Site) → Told before middle xs → Told middle after ys → Told before after (xs ++ ys)
   both_told before middle after xs ys h k = record {
     tells = subst (λ (t : Bool). Tells (get_or before a false) (get_or after a false) t (is_always_touched (xs ++ ys) a)) (sym (any_append (touches a) xs ys))
@@ -177,10 +166,6 @@ module _ (ix : Indexing) (a : ℕ) where
         (touch_tells (get_or marks a false) (get_or (touching x.touches marks) a false) (touches a x) (is_open x) (touching_mark a x.touches marks within)));
     long = length-touching x.touches marks;
   }
-    where
-      or_false : (b : Bool) → b ≡ (b || false)
-      or_false true = refl
-      or_false false = refl
 
   abbrev ToldStmt : CheckedStmt → Type 0
   ToldStmt x = (context : List CheckedExpr) (s : State) → a < length s.touched → Told s.touched (numbered_step ix x s).touched (stmt_sites x context)

@@ -7,8 +7,8 @@ pub mod WellFormed
 pub mod Uses
 pub mod Declarations
 pub mod Checks
-pub mod Tables
-pub mod Numbers
+pub mod KindTable
+pub mod DefineTable
 pub mod Sites
 pub mod Touches
 pub mod Touched

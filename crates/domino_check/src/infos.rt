@@ -3,13 +3,13 @@
 ghost use Rattle.std.specs.Prelude.{◌≡◌, ◌++◌, List, map, flat_map, OnOk, IfOk};
 ghost use Rattle.domino_tree.specs.Value.{Defined, item_define, names_of, start_value};
 ghost use Rattle.domino_check.specs.Infos.{item_info, infos_of, is_scalar, defined_of};
-ghost use Rattle.domino_check.specs.Numbers.{Numbers as HasNumbers};
+ghost use Rattle.domino_check.specs.DefineTable.{Numbers as HasNumbers};
 
-use crate::lengths::length_of;
-use crate::names::copy_name;
+use crate::define_table::{Numbers, size_number};
+use crate::kind_table::copy_name;
 use crate::numbered::ArrayInfo;
-use crate::numbers::{Numbers, size_number};
 use crate::scope::Define;
+use crate::size_checks::length_of;
 use domino_tree::{Item, Program, Start};
 use sqlite_items::Items;
 use std::alloc::{AllocError, Global};

@@ -2,25 +2,25 @@
 //! hash calls with as many arguments as they take, sizes within the limits, and one index for each array.
 #![tactic(auto)]
 
+mod all_checks;
 mod checked;
-mod checking;
-mod checks;
 mod declarations;
+mod define_table;
 mod fault;
 mod indexes;
 mod infos;
-mod lengths;
-mod names;
+mod kind_table;
+mod name_checks;
 mod numbered;
-mod numbering;
-mod numbers;
 mod parts;
 mod role;
 mod scope;
 mod sites;
+mod size_checks;
+mod translation;
 mod uses;
 
+pub use all_checks::check;
 pub use checked::Checked;
-pub use checking::check;
 pub use fault::{CheckFault, What};
 pub use numbered::{ArrayInfo, CheckedArm, CheckedExpr, CheckedStmt};

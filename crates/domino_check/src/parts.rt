@@ -7,15 +7,15 @@ ghost use Rattle.domino_check.specs.Infos.{infos_of};
 ghost use Rattle.domino_check.specs.Numbering.{numbered_body, accesses};
 ghost use Rattle.domino_check.specs.Refused.{PassesNames, PassesSizes, PassesIndexes, RefusedIndexes};
 
+use crate::define_table::numbers_of;
 use crate::fault::CheckFault;
 use crate::indexes::index_table;
 use crate::infos::{defines_of, infos_of};
-use crate::names::copy_name;
+use crate::kind_table::copy_name;
 use crate::numbered::{ArrayInfo, CheckedExpr, CheckedStmt};
-use crate::numbering::{Access, number_block};
-use crate::numbers::numbers_of;
 use crate::scope::Scope;
 use crate::sites::{check_sites, push_block};
+use crate::translation::{Access, number_block};
 use domino_tree::Program;
 use mp5_words::{FieldNames, Name};
 use sqlite_items::Items;

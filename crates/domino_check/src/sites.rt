@@ -11,7 +11,7 @@ ghost use Rattle.domino_check.specs.Sites.{Site, mentions, index_mentions, Index
 ghost use Rattle.domino_check.specs.Touches.{stmt_touches, arm_touches, touches_of, joined_touches, touch_of, IsFirstMoved, NoneMoved, MovedBy};
 
 use crate::fault::CheckFault;
-use crate::names::copy_name;
+use crate::kind_table::copy_name;
 use crate::numbered::{ArrayInfo, CheckedArm, CheckedExpr, CheckedStmt};
 use sqlite_items::Items;
 use std::alloc::{AllocError, Global};

@@ -2,7 +2,7 @@
 use Rattle.std.proofs.Common.{◌≡◌, ◌++◌, List, take, flat_map}
 use Rattle.domino_tree.specs.Value.{Defined}
 use Rattle.domino_check.specs.Infos.{item_info}
-use Rattle.domino_check.specs.Numbers.{Numbers}
+use Rattle.domino_check.specs.DefineTable.{Numbers}
 use Rattle.domino_check.proofs.infos.push_infos.Given as goal
 
 abbrev pub invariant-loop-item : goal.invariant-loop-item

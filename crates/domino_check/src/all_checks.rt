@@ -1,0 +1,70 @@
+//! All checks, in order.
+
+ghost use Rattle.std.specs.Prelude.{◌≡◌, ◌≢◌, IfOk, IfErr, OnOk, IsErrAnd};
+ghost use Rattle.domino_check.specs.declared.fault.CheckFault.{CheckFault as Fault};
+ghost use Rattle.domino_check.specs.declared.fault.CheckFault.TheVariants.{NoMemory};
+ghost use Rattle.domino_check.specs.Refused.{PassesNames, PassesSizes, Passes, RefusedNames, RefusedSizes, Refused};
+
+use crate::checked::Checked;
+use crate::declarations::declarations;
+use crate::define_table::numbers_of;
+use crate::fault::CheckFault;
+use crate::name_checks::{check_calls, check_kinds, check_known, kinds_of};
+use crate::parts::parts_of;
+use crate::size_checks::{check_counts, check_lengths};
+use crate::uses::uses_of;
+use domino_tree::Program;
+use std::alloc::Global;
+
+// The checks of names and calls.
+fn check_names(alloc: Global, program: &Program) -> Result<(), CheckFault>
+    ensures passes { OnOk result (PassesNames program.now) }
+    ensures refuses { IfErr result (λ f. f ≢ NoMemory → RefusedNames program.now f) }
+{
+    let declared = declarations(alloc, program)?;
+    let kinds = kinds_of(alloc, &declared)?;
+    let uses = uses_of(alloc, program)?;
+    check_known(alloc, &uses, &kinds)?;
+    check_kinds(alloc, &uses, &kinds)?;
+    check_calls(alloc, &uses)
+}
+
+// The checks of lengths and counts.
+fn check_sizes(alloc: Global, program: &Program) -> Result<(), CheckFault>
+    ensures passes { OnOk result (PassesSizes program.now) }
+    ensures refuses { IfErr result (λ f. f ≢ NoMemory → RefusedSizes program.now f) }
+{
+    let numbers = numbers_of(alloc, program)?;
+    check_lengths(alloc, program, &numbers)?;
+    check_counts(alloc, program, &numbers)
+}
+
+// All checks.
+fn check_all(alloc: Global, program: Program) -> Result<Checked, CheckFault>
+    ensures read { IfOk result (λ checked. checked ≡ program) }
+    ensures passes { OnOk result (Passes program) }
+    ensures refused { IfErr result (λ f. f ≢ NoMemory → Refused program f) }
+{
+    check_names(alloc, &program)?;
+    check_sizes(alloc, &program)?;
+    let parts = parts_of(alloc, &program)?;
+    Ok(Checked::new(program, parts))
+}
+
+/// Checks a program. The checks are made in the order of the faults' variants; within one the first place in
+/// text order decides.
+pub fn check(alloc: Global, program: Program) -> Result<Checked, CheckFault>
+    // What is accepted is the program, which passes all checks.
+    ensures read { IfOk result (λ checked. checked ≡ program) }
+    ensures passes { OnOk result (Passes program) }
+    // A program is refused by the fault that the checks give, or memory ran out.
+    ensures refused { IfErr result (λ f. f ≢ NoMemory → Refused program f) }
+    // The other way round: a program that passes is accepted, and one that a fault refuses is refused by it,
+    // each unless memory ran out.
+    ensures accepts { Passes program → IfErr result (λ f. f ≡ NoMemory) }
+    ensures refuses { (f : Fault) → Refused program f → IsErrAnd result (λ g. g ≢ NoMemory → g ≡ f) }
+    // No program is refused by two faults.
+    ensures one_refusal { (f g : Fault) → Refused program f → Refused program g → f ≡ g }
+{
+    check_all(alloc, program)
+}
