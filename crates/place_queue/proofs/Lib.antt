@@ -1,0 +1,5 @@
+pub mod Ordering
+pub mod Counting
+pub mod Floors
+pub mod Announcing
+pub mod KeepingLemmas

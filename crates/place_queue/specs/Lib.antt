@@ -1,0 +1,2 @@
+pub mod PlaceList
+pub mod Keeping
