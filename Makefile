@@ -1,9 +1,27 @@
-# `make run` builds the program and runs the example; `make test` is the whole gate.
+# make run      compiles the program without proving it, and runs PROGRAM on CAPTURE: about a minute
+# make build    proves and builds the program, crates/mp5/out/mp5
+# make install  puts the program and its manual page below PREFIX, and builds the program first where it isn't there
+# make test     is the gate: every proof, edit, test and program
 
-.PHONY: run test
+PROGRAM = examples/count.domino
+CAPTURE = examples/count.pcap
+PREFIX = /usr/local
+
+.PHONY: run build install test
 
 run:
-	@cd crates/mp5 && rt run -- one ../../examples/count.domino ../../examples/count.pcap
+	@cd crates/mp5 && rt try \
+	  --data transaction.domino="$(abspath $(PROGRAM))" --data packets.pcap="$(abspath $(CAPTURE))" \
+	  -- one transaction.domino packets.pcap
+
+build: crates/mp5/out/mp5
+
+crates/mp5/out/mp5: crates.txt $(wildcard crates/*/src/*.rt crates/*/specs/*.antt)
+	cd crates/mp5 && rt run -- one ../../examples/count.domino ../../examples/count.pcap
+
+install: crates/mp5/out/mp5
+	install -D -m 755 crates/mp5/out/mp5 "$(DESTDIR)$(PREFIX)/bin/mp5"
+	install -D -m 644 docs/mp5.1 "$(DESTDIR)$(PREFIX)/share/man/man1/mp5.1"
 
 test:
 	rt ci
