@@ -8,5 +8,5 @@ use Rattle.switch_runner.proofs.report.put_arrays.Given as goal
 abbrev pub invariant-loop-array : goal.invariant-loop-array
 invariant-loop-array g l =
     Goes (register_lines l.infos l.bench.cells) (register_lines (drop l.array l.infos) (drop l.array l.bench.cells))
-    (at l.initial.block (g.K.Sink.taken l.initial.out) (g.K.Sink.faults l.initial.out))
-    (at l.block (g.K.Sink.taken l.out) (g.K.Sink.faults l.out))
+    (at l.initial.block (g.K.Sink.seen l.initial.out))
+    (at l.block (g.K.Sink.seen l.out))

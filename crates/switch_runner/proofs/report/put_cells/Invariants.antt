@@ -9,5 +9,5 @@ use Rattle.switch_runner.proofs.report.put_cells.Given as goal
 abbrev pub invariant-loop-i : goal.invariant-loop-i
 invariant-loop-i g l =
     Goes (cell_lines l.info 0 (cells_at l.bench.cells l.array)) (cell_lines l.info l.i (drop l.i (cells_at l.bench.cells l.array)))
-    (at l.initial.block (g.K.Sink.taken l.initial.out) (g.K.Sink.faults l.initial.out))
-    (at l.block (g.K.Sink.taken l.out) (g.K.Sink.faults l.out))
+    (at l.initial.block (g.K.Sink.seen l.initial.out))
+    (at l.block (g.K.Sink.seen l.out))

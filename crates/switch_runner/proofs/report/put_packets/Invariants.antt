@@ -10,5 +10,5 @@ abbrev pub invariant-loop-t : goal.invariant-loop-t
 invariant-loop-t g l =
     (length l.rest ≡ (l.count - l.t) * length l.labels)
     × Goes (packet_lines l.labels 0 (rows l.count (length l.labels) l.packets)) (packet_lines l.labels l.t (rows (l.count - l.t) (length l.labels) l.rest))
-    (at l.initial.block (g.K.Sink.taken l.initial.out) (g.K.Sink.faults l.initial.out))
-    (at l.block (g.K.Sink.taken l.out) (g.K.Sink.faults l.out))
+    (at l.initial.block (g.K.Sink.seen l.initial.out))
+    (at l.block (g.K.Sink.seen l.out))
