@@ -3,7 +3,8 @@ use Rattle.std.proofs.Common.{◌≡◌, ℕ, zero, suc, ◌+◌, ◌*◌, ◌<�
 use Rattle.std.specs.Prelude.{slice_get}
 use Rattle.std.proofs.Common.{ap₂, mul-le-mul_right}
 use Rattle.std.proofs.lemmas.Bool.{cond-false}
-use Rattle.std.proofs.lemmas.List.{drop_more, take_at, drop_at, drop-drop, length-append, length-map}
+use Rattle.std.specs.List.{flat_map}
+use Rattle.std.proofs.lemmas.List.{drop_more, take_at, drop_at, drop-drop, length-append, length-drop, length-map, nil_from_length, take-append-drop}
 use Rattle.capture_io.specs.declared.source.Source.{Source}
 use Rattle.capture_io.specs.ClassicCapture.{Record}
 use Rattle.capture_io.specs.Header.{field, header, name_of, source, source_in, value, start_of, headers}
@@ -13,6 +14,13 @@ use Rattle.capture_io.specs.Rows.{rows}
 pub length-rows : (n width : ℕ) (ws : List ℤ) → length (rows n width ws) ≡ n
 length-rows zero width ws = refl
 length-rows (suc n) width ws = ap suc (length-rows n width (drop width ws))
+
+-- rows one after another are the words that were cut into them
+pub flat-rows : (n width : ℕ) (ws : List ℤ) → length ws ≡ n * width → flat_map (λ (row : List ℤ). row) (rows n width ws) ≡ ws
+flat-rows zero width ws e = sym (nil_from_length ws (omega (arith, e)))
+flat-rows (suc n) width ws e =
+    let rest : length (drop width ws) ≡ n * width = omega (arith, e, length-drop width ws) in
+    ap (λ (l : List ℤ). take width ws ++ l) (flat-rows n width (drop width ws) rest) ∙ take-append-drop width ws
 
 -- row t begins behind the t rows before it
 pub slice_get-rows : (n width : ℕ) (ws : List ℤ) (t : ℕ) → t < n → slice_get (rows n width ws) t ≡ Some (take width (drop (t * width) ws))

@@ -113,7 +113,7 @@ fn serve<S: Store, K: Sink>(
         Ok(headers) => headers,
         Err(status) => return status,
     };
-    run_and_report(alloc, mode, &checked, &headers, out)
+    run_and_report(alloc, mode, &checked, headers, out)
 }
 
 /// Reads a program.
@@ -206,11 +206,11 @@ fn run_and_report<K: Sink>(
     alloc: Global,
     mode: Mode,
     checked: &Checked,
-    headers: &Capture,
+    headers: Capture,
     out: &mut K,
 ) -> Status
-    requires { AreWide (length checked.now.packet.fields) headers.now }
-    ensures { Ends (report_of mode checked.now headers.now) (K.seen out.old) (K.seen out.new) result }
+    requires { AreWide (length checked.now.packet.fields) headers }
+    ensures { Ends (report_of mode checked.now headers) (K.seen out.old) (K.seen out.new) result }
 {
     match mode {
         Mode::One => run_in_order(alloc, checked, headers, out),
@@ -218,9 +218,9 @@ fn run_and_report<K: Sink>(
 }
 
 /// Runs the transaction on each header in order, and then writes the report.
-fn run_in_order<K: Sink>(alloc: Global, checked: &Checked, headers: &Capture, out: &mut K) -> Status
-    requires { AreWide (length checked.now.packet.fields) headers.now }
-    ensures { Ends (report checked.now headers.now) (K.seen out.old) (K.seen out.new) result }
+fn run_in_order<K: Sink>(alloc: Global, checked: &Checked, headers: Capture, out: &mut K) -> Status
+    requires { AreWide (length checked.now.packet.fields) headers }
+    ensures { Ends (report checked.now headers) (K.seen out.old) (K.seen out.new) result }
 {
     let Ok(end) = run_one(alloc, checked, headers) else {
         return Status::NoMemory;
@@ -234,7 +234,7 @@ fn run_in_order<K: Sink>(alloc: Global, checked: &Checked, headers: &Capture, ou
     match write_report(
         block,
         out,
-        headers.count(),
+        end.count,
         &labels,
         &end.packets,
         checked.arrays(),
