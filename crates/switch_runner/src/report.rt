@@ -6,7 +6,7 @@ ghost use Rattle.capture_io.specs.Rows.{rows};
 ghost use Rattle.domino_tree.specs.Value.{cells_at};
 ghost use Rattle.switch_runner.specs.Outside.{Grew, Stopped};
 ghost use Rattle.switch_runner.specs.Writing.{Puts, at};
-ghost use Rattle.switch_runner.specs.Report.{fields_text, packet_line, packet_lines, register_line, cell_line, cell_lines, register_lines, HasCells, done_line, run_text};
+ghost use Rattle.switch_runner.specs.Report.{fields_text, packet_line, packet_lines, register_line, cell_line, cell_lines, register_lines, HasCells, done_line, run_text, text_of};
 
 use crate::block::Block;
 use crate::outside::{Failed, Sink};
@@ -93,7 +93,7 @@ fn put_packets<K: Sink>(
     packets: &[i32],
 ) -> Result<(), Failed>
     requires { length packets.now ≡ count * length labels.now }
-    ensures { Puts (packet_lines labels.now 0 (rows count (length labels.now) packets.now))
+    ensures { Puts (text_of (packet_lines labels.now 0 (rows count (length labels.now) packets.now)))
         (at block.old (K.seen out.old)) (at block.new (K.seen out.new)) result }
 {
     let width = labels.len();
@@ -169,7 +169,7 @@ fn put_cell<K: Sink>(
     i: u32,
     value: i32,
 ) -> Result<(), Failed>
-    ensures { Puts (cell_line info.now i value)
+    ensures { Puts (text_of (cell_line info.now i value))
         (at block.old (K.seen out.old)) (at block.new (K.seen out.new)) result }
 {
     if value == info.start {
@@ -191,7 +191,7 @@ fn put_cells<K: Sink>(
 ) -> Result<(), Failed>
     requires array { array < length bench.now.cells }
     requires cells { length (cells_at bench.now.cells array) ≡ info.now.length }
-    ensures { Puts (cell_lines info.now 0 (cells_at bench.now.cells array))
+    ensures { Puts (text_of (cell_lines info.now 0 (cells_at bench.now.cells array)))
         (at block.old (K.seen out.old)) (at block.new (K.seen out.new)) result }
 {
     for i in 0..info.length {
@@ -212,7 +212,7 @@ fn put_arrays<K: Sink>(
 ) -> Result<(), Failed>
     requires few { length infos.now ≤ 16 }
     requires cells { HasCells infos.now bench.now.cells }
-    ensures { Puts (register_lines infos.now bench.now.cells)
+    ensures { Puts (text_of (register_lines infos.now bench.now.cells))
         (at block.old (K.seen out.old)) (at block.new (K.seen out.new)) result }
 {
     for (array, info) in infos.iter().enumerate() {
