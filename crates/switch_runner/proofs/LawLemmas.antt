@@ -1,6 +1,6 @@
 -- The laws of a call, from what a request does, or from words that aren't taken.
-use Rattle.std.proofs.Common.{◌≡◌, ◌≢◌, inr, ℕ, List, Some, None, refl, arith}
-use Rattle.std.specs.Prelude.{String, IfSome}
+use Rattle.std.proofs.Common.{◌≡◌, ◌≢◌, inr, ℕ, List, Some, refl, arith}
+use Rattle.std.specs.Prelude.{String}
 use Rattle.capture_io.specs.declared.fault.CaptureFault.{CaptureFault}
 use Rattle.switch_runner.specs.declared.status.ProgramFault.{ProgramFault}
 use Rattle.switch_runner.specs.declared.status.Status.{Status}

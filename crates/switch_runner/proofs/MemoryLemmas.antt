@@ -12,7 +12,6 @@ use Rattle.std.proofs.lemmas.Slice.Eq.{bytes_eq-Decides}
 use Rattle.std.specs.List.{position, position_or_len}
 use Rattle.switch_runner.specs.Memory.{NamedFile, named, file_of, faults_of, files_seen, absent, next}
 use Rattle.switch_runner.specs.Faults.{Reads}
-use Rattle.switch_runner.specs.Outside.{ChangesOnly}
 use Rattle.switch_runner.specs.declared.outside.StoreFault.TheVariants.{Failed}
 
 some_of_cond : (b : Bool) (n i : ℕ) → cond b (Some n) None ≡ Some i → n ≡ i

@@ -7,7 +7,6 @@ use Rattle.std.proofs.Math.Seq.{take-append-add, take-append_seam, take-length, 
 use Rattle.switch_runner.specs.Outside.{SinkView, Rose, TookFront, gained, Grew, Stopped}
 use Rattle.switch_runner.specs.Writing.{At, at, Wrote, Broke, Puts, Writes}
 use Rattle.switch_runner.specs.declared.status.Status.{Status}
-use Rattle.switch_runner.specs.declared.status.Status.TheVariants as status
 use Rattle.switch_runner.specs.Causes.{line}
 use Rattle.switch_runner.specs.Laws.{Tells}
 use Rattle.switch_runner.proofs.TransferLemmas.{TookFront-first, TookFront-second}

@@ -1,6 +1,6 @@
-use Rattle.std.proofs.Common.{◌≡◌, ◌<◌, ◌≤◌, ◌∙◌, ◌-◌, Bool, true, false, List, ℕ, length, take, drop, ap, sym, arith}
+use Rattle.std.proofs.Common.{◌≡◌, ◌<◌, ◌≤◌, ◌∙◌, true, false, ℕ, length, ap, sym, arith}
 use Rattle.std.proofs.lemmas.List.{take_rest}
-use Rattle.capture_io.specs.Header.{is_tag, number_at, behind_tags}
+use Rattle.capture_io.specs.Header.{is_tag, number_at}
 use Rattle.capture_io.proofs.Tags.{behind_tag, no_tag, too_short}
 use Rattle.capture_io.proofs.frame.behind_tags.Goals as goal
 

@@ -1,6 +1,4 @@
-use Rattle.std.proofs.Common.{arith}
 use Rattle.std.proofs.lemmas.Result.{err_from_is_err_and, IfErr-weaker, IfOk-weaker}
-use Rattle.switch_runner.specs.Writing.{at}
 use Rattle.switch_runner.proofs.WritingLemmas.{grew_flushed, stopped_flushed, stopped_put}
 use Rattle.switch_runner.proofs.report.write_report.Goals as goal
 

@@ -1,5 +1,4 @@
 use Rattle.std.proofs.Common.{◌≡◌, ◌*◌, ◌++◌, ◌∙◌, ℕ, ℤ, List, length, take, drop, sym, ap, subst, arith}
-use Rattle.std.specs.List.{flat_map}
 use Rattle.std.proofs.Math.Seq.{take-append_seam}
 use Rattle.switch_runner.specs.Running.{IsEnd}
 use Rattle.switch_runner.specs.Top.{AreWide}

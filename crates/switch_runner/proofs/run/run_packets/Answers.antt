@@ -1,4 +1,4 @@
-use Rattle.std.proofs.Common.{◌≡◌, ◌*◌, ◌+◌, ◌≤◌, ℕ, length, subst, arith}
+use Rattle.std.proofs.Common.{◌≡◌, ◌*◌, ◌+◌, ◌≤◌, ℕ, subst, arith}
 use Rattle.capture_io.proofs.PacketRows.{row_within}
 use Rattle.switch_runner.proofs.RunLemmas.{Comes, comes_first, comes_next, ended_packets, ended_bench}
 use Rattle.switch_runner.proofs.run.run_packets.Goals as goal

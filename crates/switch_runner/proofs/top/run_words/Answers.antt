@@ -1,4 +1,3 @@
-use Rattle.switch_runner.specs.CommandLine.{request_with}
 use Rattle.switch_runner.proofs.LawLemmas.{laws_of_request, laws_of_words}
 use Rattle.switch_runner.proofs.top.run_words.Goals as goal
 

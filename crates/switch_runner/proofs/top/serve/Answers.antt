@@ -1,7 +1,7 @@
 use Rattle.std.proofs.Common.{◌∙◌, List, ℤ, length, sym, ap, subst}
 use Rattle.capture_io.specs.Header.{headers}
 use Rattle.switch_runner.specs.Causes.{report_of}
-use Rattle.switch_runner.specs.CommandLine.{Request, request_with}
+use Rattle.switch_runner.specs.CommandLine.{request_with}
 use Rattle.switch_runner.specs.Top.{AreWide, Ends}
 use Rattle.switch_runner.proofs.CauseLemmas.{serves_no_source, serves_no_headers, serves_run}
 use Rattle.switch_runner.proofs.TopLemmas.{wide_headers}

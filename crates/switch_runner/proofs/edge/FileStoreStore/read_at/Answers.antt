@@ -1,4 +1,4 @@
-use Rattle.std.proofs.Common.{refl, ◌∙◌, ◌≡◌, ap, sym, ◌+◌, ◌-◌, ◌^◌, ◌≤◌, min, arith, rules}
+use Rattle.std.proofs.Common.{refl, ◌∙◌, ◌≡◌, arith, rules}
 use Rattle.switch_runner.specs.Memory.{faults_of}
 use Rattle.switch_runner.proofs.MemoryLemmas.{Counts, counted, not_fewer, stays}
 use Rattle.switch_runner.proofs.edge.FileStoreStore.read_at.Goals as goal

@@ -1,6 +1,5 @@
 use Rattle.std.proofs.Common.{◌≡◌, ap, rules}
-use Rattle.switch_runner.specs.Memory.{NamedFile}
-use Rattle.switch_runner.proofs.MemoryLemmas.{Counts, counted, failed_read}
+use Rattle.switch_runner.proofs.MemoryLemmas.{counted, failed_read}
 use Rattle.switch_runner.proofs.memory.MemoryStoreStore.read_at.Goals as goal
 
 pub returns-then-contains-clause-reads : goal.returns-then-contains-clause-reads
