@@ -1,18 +1,26 @@
 -- The words of a capture, cut into the rows of its packets.
-use Rattle.std.proofs.Common.{◌≡◌, ℕ, zero, suc, ◌+◌, ◌*◌, ◌<◌, ◌≤◌, Bool, true, false, cond, ℤ, List, [], ◌∷◌, ◌++◌, length, take, drop, map, codes, bytes_eq, Some, refl, sym, ap, ◌∙◌, arith}
+use Rattle.std.proofs.Common.{◌≡◌, ℕ, zero, suc, ◌+◌, ◌*◌, ◌<◌, ◌≤◌, false, bytes_eq, get_or, ℤ, List, [], ◌∷◌, ◌++◌, length, take, drop, map, Some, refl, sym, ap, ◌∙◌, arith}
 use Rattle.std.specs.Prelude.{slice_get}
 use Rattle.std.proofs.Common.{ap₂, mul-le-mul_right}
-use Rattle.std.proofs.lemmas.List.{take_at, drop_at, drop-drop, length-append, length-map}
+use Rattle.std.proofs.lemmas.Bool.{cond-false}
+use Rattle.std.specs.List.{flat_map}
+use Rattle.std.proofs.lemmas.List.{drop_more, take_at, drop_at, drop-drop, length-append, length-drop, length-map, nil_from_length, take-append-drop}
 use Rattle.capture_io.specs.declared.source.Source.{Source}
-use Rattle.capture_io.specs.declared.source.Source.TheVariants.{Arrival, OriginalLength, TypeOfService, TimeToLive, Protocol, SourceAddress, DestinationAddress, SourcePort, DestinationPort}
 use Rattle.capture_io.specs.ClassicCapture.{Record}
-use Rattle.capture_io.specs.Header.{field, header, start_of, headers}
-use Rattle.capture_io.specs.Fields.{source, value, fields, words}
+use Rattle.capture_io.specs.Header.{field, header, name_of, source, source_in, value, start_of, headers}
+use Rattle.capture_io.specs.Fields.{fields, words}
 use Rattle.capture_io.specs.Rows.{rows}
 
 pub length-rows : (n width : ℕ) (ws : List ℤ) → length (rows n width ws) ≡ n
 length-rows zero width ws = refl
 length-rows (suc n) width ws = ap suc (length-rows n width (drop width ws))
+
+-- rows one after another are the words that were cut into them
+pub flat-rows : (n width : ℕ) (ws : List ℤ) → length ws ≡ n * width → flat_map (λ (row : List ℤ). row) (rows n width ws) ≡ ws
+flat-rows zero width ws e = sym (nil_from_length ws (omega (arith, e)))
+flat-rows (suc n) width ws e =
+    let rest : length (drop width ws) ≡ n * width = omega (arith, e, length-drop width ws) in
+    ap (λ (l : List ℤ). take width ws ++ l) (flat-rows n width (drop width ws) rest) ∙ take-append-drop width ws
 
 -- row t begins behind the t rows before it
 pub slice_get-rows : (n width : ℕ) (ws : List ℤ) (t : ℕ) → t < n → slice_get (rows n width ws) t ≡ Some (take width (drop (t * width) ws))
@@ -37,26 +45,15 @@ rows-words sources start (r ∷ rs) =
     let after : drop (length sources) (fields sources start r ++ words sources start rs) ≡ words sources start rs = drop_at (fields sources start r) (words sources start rs) (length sources) width in
     ap₂ ◌∷◌ first (ap (rows (length rs) (length sources)) after ∙ rows-words sources start rs)
 
--- the value of a source that is chosen by a test
-chosen : (start : ℕ) (r : Record) (b : Bool) (s others : Source) (z : ℤ) → value start r others ≡ z → value start r (cond b s others) ≡ cond b (value start r s) z
-chosen start r true s others z e = refl
-chosen start r false s others z e = e
-
-value-source : (start : ℕ) (r : Record) (name : List ℕ) → value start r (source name) ≡ field start r name
-value-source start r name =
-    chosen start r (bytes_eq name (codes "arrival")) Arrival _ _
-    (chosen start r (bytes_eq name (codes "len")) OriginalLength _ _
-    (chosen start r (bytes_eq name (codes "tos")) TypeOfService _ _
-    (chosen start r (bytes_eq name (codes "ttl")) TimeToLive _ _
-    (chosen start r (bytes_eq name (codes "proto")) Protocol _ _
-    (chosen start r (bytes_eq name (codes "saddr")) SourceAddress _ _
-    (chosen start r (bytes_eq name (codes "daddr")) DestinationAddress _ _
-    (chosen start r (bytes_eq name (codes "sport")) SourcePort _ _
-    (chosen start r (bytes_eq name (codes "dport")) DestinationPort _ _ refl))))))))
+-- a place of another name is passed
+pub passed_source : (places : List Source) (i : ℕ) (d : Source) (name : List ℕ) → i < length places → bytes_eq name (name_of (get_or places i d)) ≡ false → source_in (drop i places) name ≡ source_in (drop (i + 1) places) name
+passed_source places i d name h other =
+    ap (λ (l : List Source). source_in l name) (drop_more places i d h)
+    ∙ cond-false (bytes_eq name (name_of (get_or places i d))) (get_or places i d) (source_in (drop (i + 1) places) name) other
 
 fields-names : (names : List (List ℕ)) (start : ℕ) (r : Record) → fields (map source names) start r ≡ header names start r
 fields-names [] start r = refl
-fields-names (name ∷ names) start r = ap₂ ◌∷◌ (value-source start r name) (fields-names names start r)
+fields-names (name ∷ names) start r = ap (λ l. field start r name ∷ l) (fields-names names start r)
 
 each-names : (names : List (List ℕ)) (start : ℕ) (rs : List Record) → map (fields (map source names) start) rs ≡ map (header names start) rs
 each-names names start [] = refl

@@ -4,7 +4,8 @@ use Rattle.std.specs.List.{list_any}
 use Rattle.std.proofs.lemmas.Bool.{or_parts}
 use Rattle.capture_io.specs.declared.source.Source.{Source}
 use Rattle.capture_io.specs.declared.source.Source.TheVariants.{Arrival, OriginalLength, Unfilled}
-use Rattle.capture_io.specs.Fields.{is_in_packet, value_in}
+use Rattle.capture_io.specs.Fields.{is_in_packet}
+use Rattle.capture_io.specs.Header.{value_in}
 
 value-outside : (s : Source) (since : ℤ) (original : ℕ) (a b : List ℕ) → is_in_packet s ≡ false → value_in s since original a ≡ value_in s since original b
 value-outside Arrival since original a b outside = refl

@@ -9,7 +9,8 @@ use Rattle.capture_io.specs.declared.source.Source.{Source}
 use Rattle.capture_io.specs.ClassicCapture.{Record, IsCapture}
 use Rattle.capture_io.specs.Refusal.{Refuses, IsRefusedFor}
 use Rattle.capture_io.specs.Header.{start_of, headers}
-use Rattle.capture_io.specs.Fields.{source, words}
+use Rattle.capture_io.specs.Fields.{words}
+use Rattle.capture_io.specs.Header.{source}
 use Rattle.capture_io.specs.Rows.{rows}
 use Rattle.capture_io.specs.Reading.{◌>>=◌, map_ok, Fails, Gives, after_file_header, moment_in, record_from, record_at, end_of, first_moment, records_of, capture_of}
 use Rattle.capture_io.proofs.Options.{past_refusal, of_then, map_refused, ok_is, err_is}

@@ -1,6 +1,7 @@
 //! What was read of a capture.
 
 ghost use Rattle.std.specs.Prelude.{◌≡◌, ◌<◌, ◌≤◌, length, slice_get, Some};
+ghost use Rattle.std.specs.List.{flat_map};
 
 use std::marker::Model;
 
@@ -42,5 +43,12 @@ impl Capture {
         let width = self.width as usize;
         let start = t as usize * width;
         &self.words[start..start + width]
+    }
+
+    /// The fields of all packets, one packet's after another's.
+    pub fn into_words(self) -> Vec<i32>
+        ensures { result.items ≡ flat_map (λ packet. packet) self }
+    {
+        self.words
     }
 }

@@ -1,9 +1,15 @@
 //! The IPv4 header of a frame, and the ports behind it.
 
-ghost use Rattle.std.specs.Prelude.{◌≡◌, ◌≤◌, length};
+ghost use Rattle.std.specs.Prelude.{◌≡◌, ◌≤◌, drop};
 ghost use Rattle.capture_io.specs.Header as header;
 
 use byteorder::{BigEndian, ByteOrder};
+
+/// How many bytes the two addresses of a frame have.
+const ADDRESSES_LEN: usize = 12;
+
+/// How many bytes a tag has.
+const TAG_LEN: usize = 4;
 
 const TAG: u16 = 0x8100;
 
@@ -17,27 +23,36 @@ const UDP: u8 = 17;
 
 /// The captured bytes from the IPv4 header on: none where the frame has no such header.
 pub fn ipv4(frame: &[u8]) -> &[u8]
-    requires { length frame.now ≤ 262144 }
     ensures { result.now ≡ header.ipv4 frame.now }
 {
-    let at = type_at(frame);
-    if number16_at(frame, at) == IPV4 {
-        &frame[at + 2..]
+    let typed = behind_tags(behind_addresses(frame));
+    if number16_at(typed, 0) == IPV4 {
+        &typed[2..]
     } else {
         &[]
     }
 }
 
-// Where the Ethernet type stands, behind the tags.
-fn type_at(frame: &[u8]) -> usize
-    requires { length frame.now ≤ 262144 }
-    ensures { result ≡ header.type_at frame.now }
+// The frame behind the two addresses that begin it.
+fn behind_addresses(frame: &[u8]) -> &[u8]
+    ensures { result.now ≡ drop 12 frame.now }
 {
-    let mut at = 12;
-    while is_tag(number16_at(frame, at)) {
-        at += 4;
+    if frame.len() < ADDRESSES_LEN {
+        &[]
+    } else {
+        &frame[ADDRESSES_LEN..]
     }
-    at
+}
+
+// The bytes from the Ethernet type on, behind the tags.
+fn behind_tags(typed: &[u8]) -> &[u8]
+    ensures { result.now ≡ header.behind_tags typed.now }
+{
+    let mut rest = typed;
+    while rest.len() >= TAG_LEN && is_tag(number16_at(rest, 0)) {
+        rest = &rest[TAG_LEN..];
+    }
+    rest
 }
 
 fn is_tag(kind: u16) -> bool

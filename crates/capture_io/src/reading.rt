@@ -7,6 +7,7 @@ ghost use Rattle.capture_io.specs.declared.encoding.Encoding.{Encoding};
 ghost use Rattle.capture_io.specs.ClassicCapture.{Record, IsCapture};
 ghost use Rattle.capture_io.specs.Refusal.{Refuses, IsRefusedFor};
 ghost use Rattle.capture_io.specs.Header.{headers};
+ghost use Rattle.capture_io.specs.Header as header;
 ghost use Rattle.capture_io.specs.Fields as spec;
 ghost use Rattle.capture_io.specs.Reading.{Gives, map_ok, first_moment, records_of, capture_of};
 
@@ -146,7 +147,7 @@ fn push_fields(
     original: u32,
     packet: &[u8],
 ) -> Result<(), CaptureFault>
-    ensures fields { OnOk result (words.new.items ≡ words.old.items ++ map (λ s. spec.value_in s since original packet.now) sources.now) }
+    ensures fields { OnOk result (words.new.items ≡ words.old.items ++ map (λ s. header.value_in s since original packet.now) sources.now) }
     ensures memory { IsOkUnless result CaptureFault.NoMemory }
 {
     for source in sources {

@@ -6,6 +6,7 @@ ghost use Rattle.std.specs.List.{list_any};
 ghost use Rattle.std.specs.Str.{bytes_eq};
 ghost use Rattle.mp5_words.specs.Words.{word};
 ghost use Rattle.capture_io.specs.Fields as spec;
+ghost use Rattle.capture_io.specs.Header as header;
 
 use crate::fault::CaptureFault;
 use crate::frame::{byte_at, number32_at, port};
@@ -28,10 +29,28 @@ pub enum Source {
 }
 
 impl Source {
+    /// The name of the field whose value is read here; no name where none is.
+    pub fn name(self) -> &'static str
+        ensures { result.now ≡ header.name_of self }
+    {
+        match self {
+            Source::Arrival => "arrival",
+            Source::OriginalLength => "len",
+            Source::TypeOfService => "tos",
+            Source::TimeToLive => "ttl",
+            Source::Protocol => "proto",
+            Source::SourceAddress => "saddr",
+            Source::DestinationAddress => "daddr",
+            Source::SourcePort => "sport",
+            Source::DestinationPort => "dport",
+            Source::Unfilled => "",
+        }
+    }
+
     /// The value of a record with this arrival, this original length, and these bytes from the IPv4
     /// header on.
     pub fn value(self, since: i32, original: u32, packet: &[u8]) -> i32
-        ensures value { result ≡ spec.value_in self since original packet.now }
+        ensures value { result ≡ header.value_in self since original packet.now }
         ensures fits { FitsSigned w32 result }
     {
         match self {
@@ -75,7 +94,7 @@ pub fn reads_packet(sources: &[Source]) -> bool
 
 /// The source of each field, in order of declaration.
 pub fn sources_of(alloc: Global, names: &FieldNames) -> Result<Vec<Source>, CaptureFault>
-    ensures sources { IfOk result (λ sources. sources.items ≡ map spec.source names.now) }
+    ensures sources { IfOk result (λ sources. sources.items ≡ map header.source names.now) }
     ensures memory { IsOkUnless result CaptureFault.NoMemory }
 {
     let mut sources = Vec::new(alloc);
@@ -85,34 +104,33 @@ pub fn sources_of(alloc: Global, names: &FieldNames) -> Result<Vec<Source>, Capt
     Ok(sources)
 }
 
+// Where the values of fields are read.
+const FILLED: [Source; 9] = [
+    Source::Arrival,
+    Source::OriginalLength,
+    Source::TypeOfService,
+    Source::TimeToLive,
+    Source::Protocol,
+    Source::SourceAddress,
+    Source::DestinationAddress,
+    Source::SourcePort,
+    Source::DestinationPort,
+];
+
+// Where the value of a field of this name is read.
 fn source_of(name: &Name) -> Source
-    ensures { result ≡ spec.source name.now }
+    ensures { result ≡ header.source name.now }
 {
-    if is_named(name, b"arrival") {
-        Source::Arrival
-    } else if is_named(name, b"len") {
-        Source::OriginalLength
-    } else if is_named(name, b"tos") {
-        Source::TypeOfService
-    } else if is_named(name, b"ttl") {
-        Source::TimeToLive
-    } else if is_named(name, b"proto") {
-        Source::Protocol
-    } else if is_named(name, b"saddr") {
-        Source::SourceAddress
-    } else if is_named(name, b"daddr") {
-        Source::DestinationAddress
-    } else if is_named(name, b"sport") {
-        Source::SourcePort
-    } else if is_named(name, b"dport") {
-        Source::DestinationPort
-    } else {
-        Source::Unfilled
+    for source in FILLED {
+        if is_named(name, source.name()) {
+            return source;
+        }
     }
+    Source::Unfilled
 }
 
-fn is_named(name: &Name, bytes: &[u8]) -> bool
-    ensures { result ≡ bytes_eq name.now bytes.now }
+fn is_named(name: &Name, text: &str) -> bool
+    ensures { result ≡ bytes_eq name.now text.now }
 {
-    name.bytes() == bytes
+    name.bytes() == text.as_bytes()
 }

@@ -1,6 +1,6 @@
 -- The parser of the forms without operators between expressions is exact, where those of the expressions in them
 -- are.
-use Rattle.std.proofs.Common.{◌≡◌, ℕ, suc, ◌≤◌, Bool, true, false, nat_le, List, [], ◌∷◌, ◌++◌, length, map, Some, None, inl, inr, refl, ap, sym, subst, ◌∙◌, append_assoc, arith}
+use Rattle.std.proofs.Common.{◌≡◌, ℕ, suc, ◌≤◌, Bool, true, false, nat_le, List, [], ◌∷◌, ◌++◌, length, map, Some, None, inl, inr, refl, ap, sym, subst, ◌∙◌, append_assoc, arith, Option, IfSome, rules}
 use Rattle.std.specs.List.{list_all}
 use Rattle.std.proofs.lemmas.Bool.{and_from, and_parts}
 use Rattle.std.proofs.lemmas.List.Concat.{flat_map-cons}
@@ -14,10 +14,14 @@ use Rattle.domino_tree.specs.declared.token.Sign.{Sign}
 use Rattle.domino_tree.specs.declared.token.Sign.TheVariants as signs
 use Rattle.domino_tree.specs.declared.expr.Expr.{Expr}
 use Rattle.domino_tree.specs.declared.expr.Expr.TheVariants as expr
-use Rattle.domino_tree.specs.Grammar.{is_name, sign_before, level, in_round, in_square, with_commas, separated, field_tokens, spelled, stands}
+use Rattle.domino_tree.specs.Grammar.{is_name, in_round, in_square, with_commas, separated, field_tokens, spelled, stands}
+use denote.Enum.Bare.{same_true}
+use Rattle.domino_tree.specs.contracts.token.Sign.{the_type as sign_type}
+use Rattle.domino_tree.specs.Operators.{sign_before, level, same_sign, operators_before, operator_before}
+use Rattle.domino_syntax.proofs.SignLemmas.{found}
 use Rattle.domino_tree.proofs.ExprLemmas.{induct, spelled-Number, spelled-Word, spelled-Field, spelled-Cell, spelled-One, spelled-Two, spelled-Pick, spelled-Call, spelled-Group, stands-Number, stands-Word, stands-Field, stands-Cell, stands-One, stands-Two, stands-Pick, stands-Call, stands-Group}
 use Rattle.domino_syntax.specs.Parsers.{Parser, first, sees, sees_sign, sees_number, name}
-use Rattle.domino_syntax.specs.ReadingExpressions.{operator_before, a_unary, unary, bracketed, argument, arguments, field, cell, call, behind_name, named, primary, operand}
+use Rattle.domino_syntax.specs.ReadingExpressions.{a_unary, unary, bracketed, argument, arguments, field, cell, call, behind_name, named, primary, operand}
 use Rattle.domino_syntax.proofs.Exact.{Grammar, Stops, Exact, exact_below, exact_as, exact_one, exact_pure, exact_map, exact_next, exact_behind, exact_choice, exact_chain, Nothing, Image, Then, Either, Runs, Many, Adds, further_to, further_from, By}
 use Rattle.domino_syntax.proofs.OneToken.{IsName, IsNumber, name_tokens, some_name, some_number, exact_sign, exact_name, exact_number, unseen_sign, stops_at_sign, sees_itself, Behind, behind_first, Closed, exact_opened, exact_closed}
 use Rattle.domino_syntax.proofs.ExpressionsStops.{stops_at}
@@ -255,10 +259,10 @@ abbrev IsUnary : Grammar Op1
 IsUnary used op = used ≡ token.Sign (sign_before op) ∷ []
 
 unary_is : (s : Sign) (op : Op1) → operator_before s ≡ Some op → s ≡ sign_before op
-unary_is signs.Minus op1.Neg h = refl
-unary_is signs.Bang op1.Not h = refl
-unary_is signs.Tilde op1.Flip h = refl
-unary_is _ _ h = cc
+unary_is s op h = sym (same_true sign_type (search rules) (sign_before op) s (of_some (operator_before s) h (found (λ op. same_sign (sign_before op) s) operators_before)))
+  where
+    of_some : (o : Option Op1) → o ≡ Some op → IfSome o (λ op. same_sign (sign_before op) s ≡ true) → same_sign (sign_before op) s ≡ true
+    of_some o is h = subst (λ o. IfSome o (λ op. same_sign (sign_before op) s ≡ true)) is h
 
 unary_to : (t : Token) (op : Op1) → a_unary t ≡ Some op → IsUnary (t ∷ []) op
 unary_to (token.Name w) op h = cc
@@ -361,23 +365,7 @@ no_two op a b h = too_tight op (and_parts (nat_le 11 (level op)) _ (sym (stands-
   where
     too_tight : (op : Op2) → nat_le 11 (level op) ≡ true → ⊥
     too_tight op2.Mul h = cc
-    too_tight op2.Div h = cc
-    too_tight op2.Rem h = cc
-    too_tight op2.Add h = cc
-    too_tight op2.Sub h = cc
-    too_tight op2.Shl h = cc
-    too_tight op2.Shr h = cc
-    too_tight op2.Lt h = cc
-    too_tight op2.Le h = cc
-    too_tight op2.Gt h = cc
-    too_tight op2.Ge h = cc
-    too_tight op2.Eq h = cc
-    too_tight op2.Ne h = cc
-    too_tight op2.BitAnd h = cc
-    too_tight op2.BitXor h = cc
-    too_tight op2.BitOr h = cc
-    too_tight op2.And h = cc
-    too_tight op2.Or h = cc
+    too_tight op h = cc
 
 abbrev IsForm : Expr → Type 0
 IsForm e = stands e 11 ≡ true → Operand (spelled e) e

@@ -1,5 +1,5 @@
 -- The parser of expressions is exact at each level, and so for any expression.
-use Rattle.std.proofs.Common.{◌≡◌, ℕ, zero, suc, ◌+◌, ◌-◌, ◌≤◌, Bool, true, false, ◌&&◌, if◌then◌else◌, nat_le, nat_eq, List, [], ◌∷◌, ◌++◌, length, Option, Some, None, Err, inl, inr, refl, ap, sym, subst, ◌∙◌, append_assoc, arith, length-append}
+use Rattle.std.proofs.Common.{◌≡◌, ℕ, zero, suc, ◌+◌, ◌-◌, ◌≤◌, Bool, true, false, ◌&&◌, if◌then◌else◌, nat_le, nat_eq, List, [], ◌∷◌, ◌++◌, length, Option, Some, None, Err, inl, inr, refl, ap, sym, subst, ◌∙◌, append_assoc, arith, length-append, IfSome, rules}
 use Rattle.std.specs.Option.{is_some}
 use Rattle.std.proofs.lemmas.Bool.{and_from, and_parts, eqb-true, eq-eqb, ne_eqb, leb-true, le-leb}
 use Rattle.std.proofs.lemmas.List.{append-nil}
@@ -11,10 +11,14 @@ use Rattle.domino_tree.specs.declared.token.Sign.{Sign}
 use Rattle.domino_tree.specs.declared.token.Sign.TheVariants as signs
 use Rattle.domino_tree.specs.declared.expr.Expr.{Expr}
 use Rattle.domino_tree.specs.declared.expr.Expr.TheVariants as expr
-use Rattle.domino_tree.specs.Grammar.{sign_of, level, spelled, stands}
+use Rattle.domino_tree.specs.Grammar.{spelled, stands}
+use denote.Enum.Bare.{same_true}
+use Rattle.domino_tree.specs.contracts.token.Sign.{the_type as sign_type}
+use Rattle.domino_tree.specs.Operators.{sign_of, level, same_sign, operators, operator_between}
+use Rattle.domino_syntax.proofs.SignLemmas.{found}
 use Rattle.domino_tree.proofs.ExprLemmas.{induct, spelled-Two, spelled-Pick, stands-Number, stands-Word, stands-Field, stands-Cell, stands-One, stands-Two, stands-Pick, stands-Call, stands-Group}
 use Rattle.domino_syntax.specs.Parsers.{Parser, first, sees, sees_sign, ◌>>=◌}
-use Rattle.domino_syntax.specs.ReadingExpressions.{operator_between, of_level, a_binary, binary, joined, chain, pick, loosest, behind_level, tier, expression_at, expression}
+use Rattle.domino_syntax.specs.ReadingExpressions.{of_level, a_binary, binary, joined, chain, pick, loosest, behind_level, tier, expression_at, expression}
 use Rattle.domino_syntax.proofs.Exact.{Grammar, Stops, Exact, exact_below, exact_as, exact_one, exact_pure, exact_map, exact_then, exact_next, exact_choice, exact_chain, first_none, Nothing, Image, Then, Either, Runs, stay, go, run_on, By}
 use Rattle.domino_syntax.proofs.OneToken.{exact_sign, unseen_sign, sees_itself, Behind, behind_first, exact_opened}
 use Rattle.domino_syntax.proofs.ExpressionsStops.{stops_at, stops_above, stops_binary, binary_stops}
@@ -92,45 +96,14 @@ abbrev IsBinary : ℕ → Grammar Op2
 IsBinary k = By (λ op. token.Sign (sign_of op) ∷ []) (λ op. nat_eq (level op) k)
 
 between_is : (s : Sign) (op : Op2) → operator_between s ≡ Some op → s ≡ sign_of op
-between_is signs.Star op2.Mul h = refl
-between_is signs.Slash op2.Div h = refl
-between_is signs.Percent op2.Rem h = refl
-between_is signs.Plus op2.Add h = refl
-between_is signs.Minus op2.Sub h = refl
-between_is signs.ShiftLeft op2.Shl h = refl
-between_is signs.ShiftRight op2.Shr h = refl
-between_is signs.Less op2.Lt h = refl
-between_is signs.LessEqual op2.Le h = refl
-between_is signs.Greater op2.Gt h = refl
-between_is signs.GreaterEqual op2.Ge h = refl
-between_is signs.Equal op2.Eq h = refl
-between_is signs.NotEqual op2.Ne h = refl
-between_is signs.Ampersand op2.BitAnd h = refl
-between_is signs.Caret op2.BitXor h = refl
-between_is signs.Bar op2.BitOr h = refl
-between_is signs.AndAnd op2.And h = refl
-between_is signs.OrOr op2.Or h = refl
-between_is _ _ h = cc
+between_is s op h = sym (same_true sign_type (search rules) (sign_of op) s (of_some (operator_between s) h (found (λ op. same_sign (sign_of op) s) operators)))
+  where
+    of_some : (o : Option Op2) → o ≡ Some op → IfSome o (λ op. same_sign (sign_of op) s ≡ true) → same_sign (sign_of op) s ≡ true
+    of_some o is h = subst (λ o. IfSome o (λ op. same_sign (sign_of op) s ≡ true)) is h
 
 between_of : (op : Op2) → operator_between (sign_of op) ≡ Some op
 between_of op2.Mul = refl
-between_of op2.Div = refl
-between_of op2.Rem = refl
-between_of op2.Add = refl
-between_of op2.Sub = refl
-between_of op2.Shl = refl
-between_of op2.Shr = refl
-between_of op2.Lt = refl
-between_of op2.Le = refl
-between_of op2.Gt = refl
-between_of op2.Ge = refl
-between_of op2.Eq = refl
-between_of op2.Ne = refl
-between_of op2.BitAnd = refl
-between_of op2.BitXor = refl
-between_of op2.BitOr = refl
-between_of op2.And = refl
-between_of op2.Or = refl
+between_of op = refl
 
 level_is : (k : ℕ) (s : Sign) (o : Option Op2) (op : Op2) → operator_between s ≡ o → of_level k o ≡ Some op → IsBinary k (token.Sign s ∷ []) op
 level_is k s None op is h = cc
@@ -296,23 +269,7 @@ picked_from used e h = subst (λ l. Picked l e) (sym h.text) (unfold_level 0 (om
 
     some_level : (op : Op2) → level op ≡ 0 → ⊥
     some_level op2.Mul h = omega (arith, h)
-    some_level op2.Div h = omega (arith, h)
-    some_level op2.Rem h = omega (arith, h)
-    some_level op2.Add h = omega (arith, h)
-    some_level op2.Sub h = omega (arith, h)
-    some_level op2.Shl h = omega (arith, h)
-    some_level op2.Shr h = omega (arith, h)
-    some_level op2.Lt h = omega (arith, h)
-    some_level op2.Le h = omega (arith, h)
-    some_level op2.Gt h = omega (arith, h)
-    some_level op2.Ge h = omega (arith, h)
-    some_level op2.Eq h = omega (arith, h)
-    some_level op2.Ne h = omega (arith, h)
-    some_level op2.BitAnd h = omega (arith, h)
-    some_level op2.BitXor h = omega (arith, h)
-    some_level op2.BitOr h = omega (arith, h)
-    some_level op2.And h = omega (arith, h)
-    some_level op2.Or h = omega (arith, h)
+    some_level op h = omega (arith, h)
 
     two : (op : Op2) (a b : Expr) → level op ≡ 0 → stands a 0 ≡ true → stands b 1 ≡ true → Picked (spelled a) a → Picked (spelled (expr.Two op a b)) (expr.Two op a b)
     two op a b is left right h = absurd (some_level op is)

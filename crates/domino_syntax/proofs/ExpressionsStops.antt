@@ -7,9 +7,9 @@ use Rattle.domino_tree.specs.declared.token.Token.{Token}
 use Rattle.domino_tree.specs.declared.token.Token.TheVariants as token
 use Rattle.domino_tree.specs.declared.token.Sign.{Sign}
 use Rattle.domino_tree.specs.declared.token.Sign.TheVariants as signs
-use Rattle.domino_tree.specs.Grammar.{level}
+use Rattle.domino_tree.specs.Operators.{level, operator_between}
 use Rattle.domino_syntax.specs.Parsers.{sees}
-use Rattle.domino_syntax.specs.ReadingExpressions.{operator_between, of_level, a_binary}
+use Rattle.domino_syntax.specs.ReadingExpressions.{of_level, a_binary}
 use Rattle.domino_syntax.proofs.Exact.{Stops}
 
 -- `.`, `[` and `(` go on from a name

@@ -1,9 +1,8 @@
 -- What the piece at the front of a text is: its bytes, and that its name tokens are names and its numbers words.
-use Rattle.std.proofs.Common.{◌≡◌, ℕ, zero, suc, ◌-◌, ◌<◌, ◌≤◌, nat_eq, nat_le, Bool, true, false, ◌||◌, if◌then◌else◌, List, [], ◌∷◌, ◌++◌, length, take, drop, codes, ℤ, pos, negsuc, w32, to_z, of_z, Option, Some, None, Result, Ok, Err, IfOk, IfSome, refl, sym, ap, subst, ◌∙◌, append_assoc, length-drop, one-add, arith}
+use Rattle.std.proofs.Common.{◌≡◌, ℕ, ◌<◌, ◌≤◌, nat_eq, nat_le, Bool, true, false, ◌||◌, if◌then◌else◌, List, [], ◌∷◌, take, drop, codes, ℤ, pos, negsuc, w32, to_z, of_z, Option, Some, None, IfSome, refl, sym, ap, ◌∙◌, one-add, arith}
 use Rattle.std.proofs.Math.Nat.{mod-eq_of_lt}
 use Rattle.std.proofs.lemmas.Bool.{le-leb, lt-ltb, ltb-true}
 use Rattle.std.proofs.lemmas.Int.{of_z-to_z, SFits-int_wrap}
-use Rattle.std.proofs.lemmas.List.{append-nil}
 use Rattle.std.specs.Char.{is_ascii_alphabetic, is_ascii_digit}
 use Rattle.std.specs.Prelude.{FitsSigned}
 use Rattle.std.specs.Int.{is_in_range, int_wrap}
@@ -18,7 +17,8 @@ use Rattle.domino_tree.specs.declared.token.Keyword.TheVariants as keyword
 use Rattle.domino_tree.specs.Grammar.{is_word, is_word_token, is_word_byte, is_reserved, is_name}
 use Rattle.domino_syntax.specs.declared.lex.Piece.{Piece}
 use Rattle.domino_syntax.specs.declared.lex.Piece.TheVariants as piece_of
-use Rattle.domino_syntax.specs.Tokens.{bounded, is_decimal, is_hexadecimal, number, name, word_token, word_at, piece_from, sign_of_one, sign_of_two, short_sign, long_sign, sign_at, closing, comment_to, line_behind, slash_at, hash_at, is_white, piece, is_token}
+use Rattle.domino_syntax.proofs.SignLemmas.{some_text}
+use Rattle.domino_syntax.specs.Tokens.{bounded, is_decimal, is_hexadecimal, number, name, word_token, word_at, piece_from, first_sign, sign_piece, sign_at, closing, comment_to, line_behind, slash_at, hash_at, is_white, piece, is_token}
 
 -- ---- numbers
 
@@ -124,18 +124,12 @@ word_piece_is b bs h =
 
 -- ---- signs, comments and `#`
 
-short_is : (o : Option Sign) → IsPiece (short_sign o)
-short_is None = tt
-short_is (Some s) = (omega arith, (refl, refl))
-
-long_is : (o short : Option Sign) → IsPiece (long_sign o short)
-long_is None short = short_is short
-long_is (Some s) short = (omega arith, (refl, refl))
+sign_piece_is : (o : Option Sign) → IsPiece (sign_piece o)
+sign_piece_is None = tt
+sign_piece_is (Some s) = (some_text s, (refl, refl))
 
 sign_is : (z : List ℕ) → IsPiece (sign_at z)
-sign_is [] = tt
-sign_is (a ∷ []) = short_is (sign_of_one a)
-sign_is (a ∷ b ∷ bs) = long_is (sign_of_two a b) (sign_of_one a)
+sign_is z = sign_piece_is (first_sign z)
 
 comment_is : (o : Option ℕ) → IsPiece (comment_to o)
 comment_is None = tt

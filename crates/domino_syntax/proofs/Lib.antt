@@ -1,3 +1,4 @@
+pub mod SignLemmas
 pub mod LexLemmas
 pub mod PieceLemmas
 pub mod Turns

@@ -25,7 +25,8 @@ use Rattle.domino_tree.specs.declared.program.Stmt.{Stmt}
 use Rattle.domino_tree.specs.declared.program.Stmt.TheVariants as s
 use Rattle.domino_tree.specs.declared.program.Arm.{Arm}
 use Rattle.domino_tree.specs.declared.program.Function.{Function}
-use Rattle.domino_tree.specs.Grammar.{is_name, sign_of, level, in_square, in_round, in_curly, block_tokens, with_commas, separated, field_tokens, spelled, stands, target_tokens, is_target, with_elses, chained, last_block, stmt_tokens, arm_tokens, all_true, has_arm, is_stmt, is_arm, size_tokens, is_size, length_tokens, is_length, start_tokens, is_start, declaration, item_tokens, is_item, packet_tokens, is_packet, function_tokens, is_function, program_tokens, is_program}
+use Rattle.domino_tree.specs.Grammar.{is_name, in_square, in_round, in_curly, block_tokens, with_commas, separated, field_tokens, spelled, stands, target_tokens, is_target, with_elses, chained, last_block, stmt_tokens, arm_tokens, all_true, has_arm, is_stmt, is_arm, size_tokens, is_size, length_tokens, is_length, start_tokens, is_start, declaration, item_tokens, is_item, packet_tokens, is_packet, function_tokens, is_function, program_tokens, is_program}
+use Rattle.domino_tree.specs.Operators.{sign_of, level}
 use Rattle.domino_tree.proofs.ExprLemmas as x
 use Rattle.domino_tree.proofs.ExprLemmas.{Each}
 use Rattle.domino_tree.proofs.StmtLemmas as y

@@ -9,8 +9,9 @@ use Rattle.domino_tree.specs.declared.token.Token.TheVariants as token
 use Rattle.domino_tree.specs.declared.token.Keyword.{Keyword}
 use Rattle.domino_tree.specs.declared.token.Sign.{Sign}
 use Rattle.domino_tree.specs.Grammar.{is_name}
+use Rattle.domino_tree.specs.Operators.{same_sign}
 use Rattle.domino_syntax.specs.Tokens.{is_token}
-use Rattle.domino_syntax.specs.Parsers.{Parser, first, ◌>>=◌, ◌>>◌, pure, same_sign, same_keyword, that_sign, that_keyword, a_define, a_name, a_number, sign, keyword, define, name, number, sees_sign}
+use Rattle.domino_syntax.specs.Parsers.{Parser, first, ◌>>=◌, ◌>>◌, pure, same_keyword, that_sign, that_keyword, a_define, a_name, a_number, sign, keyword, define, name, number, sees_sign}
 use Rattle.domino_syntax.proofs.Exact.{Grammar, Stops, anywhere, Exact, exact_as, exact_one, exact_pure, exact_then, exact_behind, Nothing, Then, By}
 
 -- this token

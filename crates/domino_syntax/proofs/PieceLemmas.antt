@@ -1,5 +1,5 @@
 -- The pieces of a text: each has some of its bytes, and they are cut in one way.
-use Rattle.std.proofs.Common.{◌≡◌, ◌-◌, ◌⊎◌, inl, inr, ℕ, zero, suc, ◌+◌, ◌≤◌, ◌&&◌, nat_eq, Bool, true, false, if◌then◌else◌, List, [], ◌∷◌, ◌++◌, length, take, drop, codes, Option, Some, None, Result, Ok, Err, IfSome, refl, sym, ap, subst, ◌∙◌, length-drop, arith}
+use Rattle.std.proofs.Common.{◌≡◌, ◌-◌, ◌⊎◌, inl, inr, ℕ, zero, suc, ◌+◌, ◌≤◌, ◌&&◌, nat_eq, Bool, true, false, if◌then◌else◌, List, [], ◌∷◌, ◌++◌, length, drop, codes, Option, Some, None, IfSome, refl, sym, ap, subst, ◌∙◌, length-drop, arith}
 use Rattle.std.proofs.lemmas.List.{length-take, drop-drop}
 use Rattle.std.proofs.lemmas.Bool.{and_from}
 use Rattle.std.proofs.lemmas.List.Sums.{prefix_len-le-length}
@@ -13,9 +13,11 @@ use Rattle.domino_tree.specs.declared.token.Token.TheVariants as token
 use Rattle.domino_tree.specs.Grammar.{is_word_byte, is_word_token, are_words}
 use Rattle.domino_syntax.specs.declared.lex.Piece.{Piece}
 use Rattle.domino_syntax.specs.declared.lex.Piece.TheVariants as piece_of
-use Rattle.domino_syntax.specs.Tokens.{is_token, further, piece, is_white, word_token, word_at, piece_from, sign_of_one, sign_of_two, short_sign, long_sign, sign_at, in_line, closing, comment_to, line_behind, slash_at, hash_at}
+use Rattle.domino_syntax.specs.Tokens.{is_token, further, piece, is_white, word_token, word_at, piece_from, first_sign, sign_piece, sign_at, in_line, closing, comment_to, line_behind, slash_at, hash_at}
 use Rattle.domino_syntax.specs.Pieces.{IsCut, ArePieces, IsBadAt}
 use Rattle.domino_syntax.specs.Pieces.IsCut.{none, blank, more}
+use Rattle.domino_tree.specs.Operators.{sign_text}
+use Rattle.domino_syntax.proofs.SignLemmas.{first_fits}
 use Rattle.domino_syntax.proofs.LexLemmas.{piece_is, IsPiece}
 
 -- ---- a piece has no more bytes than the text
@@ -34,18 +36,12 @@ fits_from : (m n : ℕ) (o : Option Token) → n ≤ m → Fits m (piece_from n 
 fits_from m n None h = tt
 fits_from m n (Some t) h = h
 
-fits_short : (m : ℕ) (o : Option Sign) → 1 ≤ m → Fits m (short_sign o)
-fits_short m None h = tt
-fits_short m (Some s) h = h
-
-fits_long : (m : ℕ) (o short : Option Sign) → 2 ≤ m → Fits m (long_sign o short)
-fits_long m None short h = fits_short m short (omega arith)
-fits_long m (Some s) short h = h
+fits_found : (m : ℕ) (o : Option Sign) → IfSome o (λ s. length (sign_text s) ≤ m) → Fits m (sign_piece o)
+fits_found m None h = tt
+fits_found m (Some s) h = h
 
 fits_sign : (z : List ℕ) → Fits (length z) (sign_at z)
-fits_sign [] = tt
-fits_sign (a ∷ []) = fits_short 1 (sign_of_one a) (omega arith)
-fits_sign (a ∷ b ∷ bs) = fits_long (length (a ∷ b ∷ bs)) (sign_of_two a b) (sign_of_one a) (omega arith)
+fits_sign z = fits_found (length z) (first_sign z) (first_fits z)
 
 some_up_to : (c : Bool) (n m : ℕ) (o : Option ℕ) → n ≤ m → IfSome o (λ e. e ≤ m) → IfSome (if c then Some n else o) (λ e. e ≤ m)
 some_up_to true n m o here later = here

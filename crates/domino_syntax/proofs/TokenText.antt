@@ -18,10 +18,11 @@ use Rattle.domino_tree.specs.declared.token.Keyword.TheVariants as keyword
 use Rattle.domino_tree.specs.declared.token.Token.{Token}
 use Rattle.domino_tree.specs.declared.token.Token.TheVariants as token
 use Rattle.domino_tree.specs.Grammar.{is_word_token, is_word_byte, is_reserved, is_name}
-use Rattle.domino_tree.specs.Text.{keyword_text, sign_text, token_text}
+use Rattle.domino_tree.specs.Text.{keyword_text, token_text}
+use Rattle.domino_tree.specs.Operators.{sign_text}
 use Rattle.domino_syntax.specs.declared.lex.Piece.{Piece}
 use Rattle.domino_syntax.specs.declared.lex.Piece.TheVariants as piece_of
-use Rattle.domino_syntax.specs.Tokens.{are_digits, is_decimal, is_hexadecimal, bounded, number, name, word_token, word_at, piece_from, is_white, sign_of_one, sign_of_two, sign_at, hash_at, slash_at, piece, is_token}
+use Rattle.domino_syntax.specs.Tokens.{are_digits, is_decimal, is_hexadecimal, bounded, number, name, word_token, word_at, piece_from, is_white, first_sign, sign_at, hash_at, slash_at, piece, is_token}
 use Rattle.domino_syntax.proofs.LexLemmas.{word_fits, bounded_of}
 
 -- a space, or the end of a line
@@ -31,12 +32,12 @@ gap false = 10
 
 -- ---- signs, reserved names and `#define`
 
-sign_piece : (s : Sign) (g : Bool) (rest : List ℕ) → piece (sign_text s ++ gap g ∷ rest) ≡ piece_of.Token (token.Sign s) (length (sign_text s))
-unfolding piece sign_of_two sign_of_one
-sign_piece sign.Plus true rest = refl
-sign_piece sign.Plus false rest = refl
-sign_piece s true rest = refl
-sign_piece s false rest = refl
+sign_text_piece : (s : Sign) (g : Bool) (rest : List ℕ) → piece (sign_text s ++ gap g ∷ rest) ≡ piece_of.Token (token.Sign s) (length (sign_text s))
+unfolding piece first_sign
+sign_text_piece sign.Plus true rest = refl
+sign_text_piece sign.Plus false rest = refl
+sign_text_piece s true rest = refl
+sign_text_piece s false rest = refl
 
 keyword_piece : (k : Keyword) (g : Bool) (rest : List ℕ) → piece (keyword_text k ++ gap g ∷ rest) ≡ piece_of.Token (token.Keyword k) (length (keyword_text k))
 unfolding piece name
@@ -253,4 +254,4 @@ token_piece (token.Name w) g rest is word = name_piece w g rest is
 token_piece (token.Keyword k) g rest is word = keyword_piece k g rest
 token_piece token.Define g rest is word = define_piece g rest
 token_piece (token.Number z) g rest is word = number_piece z g rest (word_fits z word)
-token_piece (token.Sign s) g rest is word = sign_piece s g rest
+token_piece (token.Sign s) g rest is word = sign_text_piece s g rest

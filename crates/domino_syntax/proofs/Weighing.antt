@@ -7,7 +7,9 @@ use Rattle.std.proofs.lemmas.List.Sums.{fold-append}
 use Rattle.domino_tree.specs.declared.token.Token.{Token}
 use Rattle.domino_tree.specs.declared.token.Token.TheVariants as token
 use Rattle.domino_tree.specs.declared.token.Keyword.TheVariants as keyword
-use Rattle.domino_tree.specs.declared.token.Sign.{Sign}
+use Rattle.domino_tree.specs.declared.token.Effect.{Effect}
+use Rattle.domino_tree.specs.declared.token.Effect.TheVariants as effect
+use Rattle.domino_tree.specs.Operators.{sign_row}
 use Rattle.domino_tree.specs.declared.token.Sign.TheVariants as sign
 use Rattle.domino_tree.specs.declared.program.Size.{Size}
 use Rattle.domino_tree.specs.declared.program.Size.TheVariants as size
@@ -18,7 +20,7 @@ use Rattle.domino_tree.specs.declared.program.Item.TheVariants as item
 use Rattle.domino_tree.specs.declared.program.PacketDecl.{PacketDecl}
 use Rattle.domino_tree.specs.declared.program.Function.{Function}
 use Rattle.domino_tree.specs.Grammar.{size_tokens, length_tokens, start_tokens, item_tokens, packet_tokens, function_tokens, program_tokens}
-use Rattle.domino_tree.specs.Weight.{cleared, counted, after_sign, after_token, load, stays_light, is_light}
+use Rattle.domino_tree.specs.Weight.{cleared, counted, after_effect, after_token, load, stays_light, is_light}
 use Rattle.domino_tree.specs.Derives.{IsValue, IsEntry, IsStart, IsItem, AreItems, none, more, Parts}
 
 -- ---- counters
@@ -61,46 +63,19 @@ below_closed (m ∷ ms) (n ∷ ns) h = h.1
 below_opened : (ms ns : List ℕ) → Below ms ns → Below (0 ∷ ms) (0 ∷ ns)
 below_opened ms ns h = (omega arith, h)
 
-below_sign : (ms ns : List ℕ) (s : Sign) → Below ms ns → Below (after_sign ms s) (after_sign ns s)
-below_sign ms ns sign.Plus h = below_counted ms ns h
-below_sign ms ns sign.Minus h = below_counted ms ns h
-below_sign ms ns sign.Star h = below_counted ms ns h
-below_sign ms ns sign.Slash h = below_counted ms ns h
-below_sign ms ns sign.Percent h = below_counted ms ns h
-below_sign ms ns sign.ShiftLeft h = below_counted ms ns h
-below_sign ms ns sign.ShiftRight h = below_counted ms ns h
-below_sign ms ns sign.Less h = below_counted ms ns h
-below_sign ms ns sign.LessEqual h = below_counted ms ns h
-below_sign ms ns sign.Greater h = below_counted ms ns h
-below_sign ms ns sign.GreaterEqual h = below_counted ms ns h
-below_sign ms ns sign.Equal h = below_counted ms ns h
-below_sign ms ns sign.NotEqual h = below_counted ms ns h
-below_sign ms ns sign.Ampersand h = below_counted ms ns h
-below_sign ms ns sign.Caret h = below_counted ms ns h
-below_sign ms ns sign.Bar h = below_counted ms ns h
-below_sign ms ns sign.AndAnd h = below_counted ms ns h
-below_sign ms ns sign.OrOr h = below_counted ms ns h
-below_sign ms ns sign.Bang h = below_counted ms ns h
-below_sign ms ns sign.Tilde h = below_counted ms ns h
-below_sign ms ns sign.Question h = below_counted ms ns h
-below_sign ms ns sign.Assign h = h
-below_sign ms ns sign.Colon h = h
-below_sign ms ns sign.Comma h = h
-below_sign ms ns sign.Dot h = h
-below_sign ms ns sign.Semicolon h = below_cleared ms ns h
-below_sign ms ns sign.OpenRound h = below_opened ms ns h
-below_sign ms ns sign.OpenSquare h = below_opened ms ns h
-below_sign ms ns sign.OpenCurly h = below_opened ms ns h
-below_sign ms ns sign.CloseRound h = below_closed ms ns h
-below_sign ms ns sign.CloseSquare h = below_closed ms ns h
-below_sign ms ns sign.CloseCurly h = below_closed ms ns h
+below_effect : (ms ns : List ℕ) (e : Effect) → Below ms ns → Below (after_effect ms e) (after_effect ns e)
+below_effect ms ns effect.Counts h = below_counted ms ns h
+below_effect ms ns effect.Opens h = below_opened ms ns h
+below_effect ms ns effect.Closes h = below_closed ms ns h
+below_effect ms ns effect.Clears h = below_cleared ms ns h
+below_effect ms ns effect.Keeps h = h
 
 below_token : (ms ns : List ℕ) (t : Token) → Below ms ns → Below (after_token ms t) (after_token ns t)
 below_token ms ns (token.Name w) h = h
 below_token ms ns (token.Keyword k) h = h
 below_token ms ns token.Define h = h
 below_token ms ns (token.Number n) h = h
-below_token ms ns (token.Sign s) h = below_sign ms ns s h
+below_token ms ns (token.Sign s) h = below_effect ms ns (sign_row s).effect h
 
 sum_from : (a : ℕ) (ns : List ℕ) → fold ◌+◌ a ns ≡ a + sum ns
 sum_from a [] = omega arith

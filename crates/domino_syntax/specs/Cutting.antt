@@ -1,5 +1,5 @@
 -- What cutting a text into tokens ensures.
-use Rattle.std.specs.Prelude.{◌≡◌, ℕ, List, Result, Ok, Err}
+use Rattle.std.specs.Prelude.{ℕ, List, Result, Ok, Err}
 use Rattle.domino_tree.specs.declared.token.Token.{Token}
 use Rattle.domino_syntax.specs.declared.fault.TextFault.{TextFault}
 use Rattle.domino_syntax.specs.declared.fault.TextFault.TheVariants as fault

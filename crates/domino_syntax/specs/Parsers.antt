@@ -4,8 +4,8 @@
 use Rattle.std.specs.Prelude.{◌≡◌, ℕ, ℤ, zero, suc, Bool, false, if◌then◌else◌, List, [], ◌∷◌, ◌++◌, length, Option, Some, None, Result, Ok, Err}
 use Rattle.std.specs.Option.{is_some}
 use denote.Enum.Bare.{sameb}
-use Rattle.domino_tree.specs.contracts.token.Sign.{the_type as sign_type}
 use Rattle.domino_tree.specs.contracts.token.Keyword.{the_type as keyword_type}
+use Rattle.domino_tree.specs.Operators.{same_sign}
 use Rattle.domino_tree.specs.declared.token.Token.{Token}
 use Rattle.domino_tree.specs.declared.token.Token.TheVariants as token
 use Rattle.domino_tree.specs.declared.token.Keyword.{Keyword}
@@ -98,10 +98,6 @@ abbrev pub all_of : {A : Type 0} → (Option Token → Bool) → Parser A → Pa
 all_of begins form = going_on (λ _. begins) (adding form) []
 
 -- ---- one token
-
--- `==` on signs
-abbrev pub same_sign : Sign → Sign → Bool
-same_sign = sameb sign_type
 
 -- `==` on reserved names
 abbrev pub same_keyword : Keyword → Keyword → Bool

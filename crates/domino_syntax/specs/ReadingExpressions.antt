@@ -3,48 +3,17 @@
 -- levels of operators between two are above it, and `c ? a : b` above all.
 use Rattle.std.specs.Prelude.{ℕ, zero, suc, ◌-◌, if◌then◌else◌, nat_eq, List, [], Option, Some, None, Err}
 use Rattle.mp5_words.specs.declared.op.Op1.{Op1}
-use Rattle.mp5_words.specs.declared.op.Op1.TheVariants as op1
 use Rattle.mp5_words.specs.declared.op.Op2.{Op2}
-use Rattle.mp5_words.specs.declared.op.Op2.TheVariants as op2
 use Rattle.domino_tree.specs.declared.token.Token.{Token}
 use Rattle.domino_tree.specs.declared.token.Token.TheVariants as token
 use Rattle.domino_tree.specs.declared.token.Sign.{Sign}
 use Rattle.domino_tree.specs.declared.token.Sign.TheVariants as signs
 use Rattle.domino_tree.specs.declared.expr.Expr.{Expr}
 use Rattle.domino_tree.specs.declared.expr.Expr.TheVariants as expr
-use Rattle.domino_tree.specs.Grammar.{level}
+use Rattle.domino_tree.specs.Operators.{level, operator_before, operator_between}
 use Rattle.domino_syntax.specs.Parsers.{Parser, one, sees, ◌>>=◌, ◌>>◌, pure, choice, going_on, adding, sign, name, number, sees_sign, sees_number}
 
 -- ---- operators
-
--- the operator that a sign writes before an expression
-abbrev pub operator_before : Sign → Option Op1
-operator_before signs.Minus = Some op1.Neg
-operator_before signs.Bang = Some op1.Not
-operator_before signs.Tilde = Some op1.Flip
-operator_before _ = None
-
--- the operator that a sign writes between two expressions
-abbrev pub operator_between : Sign → Option Op2
-operator_between signs.Star = Some op2.Mul
-operator_between signs.Slash = Some op2.Div
-operator_between signs.Percent = Some op2.Rem
-operator_between signs.Plus = Some op2.Add
-operator_between signs.Minus = Some op2.Sub
-operator_between signs.ShiftLeft = Some op2.Shl
-operator_between signs.ShiftRight = Some op2.Shr
-operator_between signs.Less = Some op2.Lt
-operator_between signs.LessEqual = Some op2.Le
-operator_between signs.Greater = Some op2.Gt
-operator_between signs.GreaterEqual = Some op2.Ge
-operator_between signs.Equal = Some op2.Eq
-operator_between signs.NotEqual = Some op2.Ne
-operator_between signs.Ampersand = Some op2.BitAnd
-operator_between signs.Caret = Some op2.BitXor
-operator_between signs.Bar = Some op2.BitOr
-operator_between signs.AndAnd = Some op2.And
-operator_between signs.OrOr = Some op2.Or
-operator_between _ = None
 
 -- an operator, where it is of this level
 abbrev pub of_level : ℕ → Option Op2 → Option Op2

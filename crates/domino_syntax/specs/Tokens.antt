@@ -1,7 +1,7 @@
 -- The tokens of a text. A text is cut into pieces from its front on: white space, comments and tokens, each
 -- as long as possible. A text has one list of tokens, or one first place where no piece begins.
-use Rattle.std.specs.Prelude.{◌≤◌, ℕ, zero, suc, ◌+◌, ◌-◌, ◌==◌, Bool, true, false, not, ◌&&◌, ◌||◌, if◌then◌else◌, nat_eq, nat_le, List, [], ◌∷◌, ◌++◌, length, take, drop, codes, pos, Option, Some, None, Result, Ok, Err}
-use Rattle.std.specs.List.{list_all, prefix_len}
+use Rattle.std.specs.Prelude.{◌≤◌, ℕ, ◌+◌, Bool, true, false, not, ◌&&◌, ◌||◌, if◌then◌else◌, nat_eq, nat_le, List, [], ◌∷◌, length, take, drop, codes, pos, Option, Some, None}
+use Rattle.std.specs.List.{find, list_all, prefix_len, starts_with}
 use Rattle.std.specs.Str.{bytes_eq}
 use Rattle.std.specs.Str.Parse.{digits_value}
 use Rattle.std.specs.Char.{is_digit, is_ascii_digit}
@@ -10,7 +10,7 @@ use Rattle.domino_tree.specs.declared.token.Token.{Token}
 use Rattle.domino_tree.specs.declared.token.Token.TheVariants as token
 use Rattle.domino_tree.specs.declared.token.Keyword.TheVariants as keyword
 use Rattle.domino_tree.specs.declared.token.Sign.{Sign}
-use Rattle.domino_tree.specs.declared.token.Sign.TheVariants as sign
+use Rattle.domino_tree.specs.Operators.{sign_text, signs}
 use Rattle.domino_tree.specs.Grammar.{is_word_byte, is_name}
 use Rattle.domino_syntax.specs.declared.lex.Piece.{Piece}
 use Rattle.domino_syntax.specs.declared.lex.Piece.TheVariants as piece_of
@@ -67,61 +67,18 @@ piece_from n (Some t) = piece_of.Token t n
 
 -- ---- signs
 
--- the sign that two bytes are
-unfoldable pub sign_of_two : ℕ → ℕ → Option Sign
-sign_of_two a b =
-    if a == 60 && b == 60 then Some sign.ShiftLeft else (
-    if a == 62 && b == 62 then Some sign.ShiftRight else (
-    if a == 60 && b == 61 then Some sign.LessEqual else (
-    if a == 62 && b == 61 then Some sign.GreaterEqual else (
-    if a == 61 && b == 61 then Some sign.Equal else (
-    if a == 33 && b == 61 then Some sign.NotEqual else (
-    if a == 38 && b == 38 then Some sign.AndAnd else (
-    if a == 124 && b == 124 then Some sign.OrOr else None)))))))
+-- the longest sign that begins a text: longer ones stand first in the table
+unfoldable pub first_sign : List ℕ → Option Sign
+first_sign text = find (λ s. starts_with nat_eq text (sign_text s)) signs
 
--- the sign that one byte is
-unfoldable pub sign_of_one : ℕ → Option Sign
-sign_of_one a =
-    if a == 43 then Some sign.Plus else (
-    if a == 45 then Some sign.Minus else (
-    if a == 42 then Some sign.Star else (
-    if a == 47 then Some sign.Slash else (
-    if a == 37 then Some sign.Percent else (
-    if a == 60 then Some sign.Less else (
-    if a == 62 then Some sign.Greater else (
-    if a == 38 then Some sign.Ampersand else (
-    if a == 94 then Some sign.Caret else (
-    if a == 124 then Some sign.Bar else (
-    if a == 33 then Some sign.Bang else (
-    if a == 126 then Some sign.Tilde else (
-    if a == 61 then Some sign.Assign else (
-    if a == 63 then Some sign.Question else (
-    if a == 58 then Some sign.Colon else (
-    if a == 59 then Some sign.Semicolon else (
-    if a == 44 then Some sign.Comma else (
-    if a == 46 then Some sign.Dot else (
-    if a == 40 then Some sign.OpenRound else (
-    if a == 41 then Some sign.CloseRound else (
-    if a == 91 then Some sign.OpenSquare else (
-    if a == 93 then Some sign.CloseSquare else (
-    if a == 123 then Some sign.OpenCurly else (
-    if a == 125 then Some sign.CloseCurly else None)))))))))))))))))))))))
-
--- one byte's sign
-abbrev pub short_sign : Option Sign → Piece
-short_sign None = piece_of.Bad
-short_sign (Some s) = piece_of.Token (token.Sign s) 1
-
--- two bytes' sign, or else the first byte's
-abbrev pub long_sign : Option Sign → Option Sign → Piece
-long_sign None short = short_sign short
-long_sign (Some s) short = piece_of.Token (token.Sign s) 2
+-- a sign as a piece
+abbrev pub sign_piece : Option Sign → Piece
+sign_piece None = piece_of.Bad
+sign_piece (Some s) = piece_of.Token (token.Sign s) (length (sign_text s))
 
 -- the longest sign at the front
 abbrev pub sign_at : List ℕ → Piece
-sign_at [] = piece_of.Bad
-sign_at (a ∷ []) = short_sign (sign_of_one a)
-sign_at (a ∷ b ∷ bs) = long_sign (sign_of_two a b) (sign_of_one a)
+sign_at text = sign_piece (first_sign text)
 
 -- ---- what is skipped
 

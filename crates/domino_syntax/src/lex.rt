@@ -9,7 +9,7 @@ ghost use Rattle.domino_syntax.specs.Tokens.{Moves};
 ghost use Rattle.domino_syntax.specs.Cutting.{Cuts};
 
 use crate::fault::TextFault;
-use domino_tree::{Keyword, Sign, Token};
+use domino_tree::{Keyword, SIGNS, Sign, Token};
 use mp5_words::Name;
 use std::alloc::{AllocError, Global};
 
@@ -188,76 +188,15 @@ fn word_at(alloc: Global, text: &[u8]) -> Result<Piece, AllocError>
     }
 }
 
-/// The sign that two bytes are.
-#[tactic(auto, unfolding(crate::specs::Tokens::sign_of_two))]
-fn sign_of_two(a: u8, b: u8) -> Option<Sign>
-    ensures { result ≡ spec.sign_of_two a b }
+/// The longest sign that begins a text.
+#[tactic(auto, unfolding(crate::specs::Tokens::first_sign))]
+fn first_sign(text: &[u8]) -> Option<Sign>
+    ensures value { result ≡ spec.first_sign text.now }
 {
-    match (a, b) {
-        (b'<', b'<') => Some(Sign::ShiftLeft),
-        (b'>', b'>') => Some(Sign::ShiftRight),
-        (b'<', b'=') => Some(Sign::LessEqual),
-        (b'>', b'=') => Some(Sign::GreaterEqual),
-        (b'=', b'=') => Some(Sign::Equal),
-        (b'!', b'=') => Some(Sign::NotEqual),
-        (b'&', b'&') => Some(Sign::AndAnd),
-        (b'|', b'|') => Some(Sign::OrOr),
-        _ => None,
-    }
-}
-
-/// The sign that one byte is.
-#[tactic(auto, unfolding(crate::specs::Tokens::sign_of_one))]
-fn sign_of_one(a: u8) -> Option<Sign>
-    ensures { result ≡ spec.sign_of_one a }
-{
-    match a {
-        b'+' => Some(Sign::Plus),
-        b'-' => Some(Sign::Minus),
-        b'*' => Some(Sign::Star),
-        b'/' => Some(Sign::Slash),
-        b'%' => Some(Sign::Percent),
-        b'<' => Some(Sign::Less),
-        b'>' => Some(Sign::Greater),
-        b'&' => Some(Sign::Ampersand),
-        b'^' => Some(Sign::Caret),
-        b'|' => Some(Sign::Bar),
-        b'!' => Some(Sign::Bang),
-        b'~' => Some(Sign::Tilde),
-        b'=' => Some(Sign::Assign),
-        b'?' => Some(Sign::Question),
-        b':' => Some(Sign::Colon),
-        b';' => Some(Sign::Semicolon),
-        b',' => Some(Sign::Comma),
-        b'.' => Some(Sign::Dot),
-        b'(' => Some(Sign::OpenRound),
-        b')' => Some(Sign::CloseRound),
-        b'[' => Some(Sign::OpenSquare),
-        b']' => Some(Sign::CloseSquare),
-        b'{' => Some(Sign::OpenCurly),
-        b'}' => Some(Sign::CloseCurly),
-        _ => None,
-    }
-}
-
-fn short_sign(a: u8) -> Piece
-    ensures value { result ≡ spec.short_sign (spec.sign_of_one a) }
-    ensures within { Moves 1 result }
-{
-    match sign_of_one(a) {
-        None => Piece::Bad,
-        Some(sign) => Piece::Token(Token::Sign(sign), 1),
-    }
-}
-
-fn long_sign(a: u8, b: u8) -> Piece
-    ensures value { result ≡ spec.long_sign (spec.sign_of_two a b) (spec.sign_of_one a) }
-    ensures within { Moves 2 result }
-{
-    match sign_of_two(a, b) {
-        None => short_sign(a),
-        Some(sign) => Piece::Token(Token::Sign(sign), 2),
-    }
+    SIGNS
+        .iter()
+        .copied()
+        .find(|sign| text.starts_with(sign.text().as_bytes()))
 }
 
 /// The longest sign at the front of a text.
@@ -265,10 +204,9 @@ fn sign_at(text: &[u8]) -> Piece
     ensures value { result ≡ spec.sign_at text.now }
     ensures within { Moves (length text.now) result }
 {
-    match text {
-        [] => Piece::Bad,
-        [a] => short_sign(*a),
-        [a, b, ..] => long_sign(*a, *b),
+    match first_sign(text) {
+        None => Piece::Bad,
+        Some(sign) => Piece::Token(Token::Sign(sign), sign.text().len()),
     }
 }
 

@@ -1,12 +1,13 @@
 //! A cursor over the tokens of a text.
 
 ghost use Rattle.std.specs.Prelude.{◌≡◌, length, IfOk};
+ghost use Rattle.domino_tree.specs.Operators.{same_sign};
 ghost use Rattle.domino_syntax.specs.Parsers as spec;
 ghost use Rattle.domino_syntax.specs.Parsers.{Reads, first};
 ghost use Rattle.domino_syntax.specs.ReadingExpressions as expressions;
 
-use crate::operators::{operator_before, operator_of_level};
-use domino_tree::{Keyword, Sign, Token};
+use crate::operators::operator_of_level;
+use domino_tree::{Keyword, Sign, Token, operator_before};
 use mp5_words::{Name, Op1, Op2};
 use std::alloc::{AllocError, AllocFailed, Global};
 use std::marker::Model;
@@ -63,7 +64,7 @@ fn copied(alloc: Global, name: &Name) -> Result<Name, AllocError>
 }
 
 fn is_same_sign(a: Sign, b: Sign) -> bool
-    ensures { result ≡ spec.same_sign a b }
+    ensures { result ≡ same_sign a b }
 {
     a == b
 }

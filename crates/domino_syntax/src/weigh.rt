@@ -4,7 +4,7 @@ ghost use Rattle.std.specs.Prelude.{◌≡◌, ◌<◌, ◌≤◌, ◌∷◌, []
 ghost use Rattle.domino_tree.specs.Weight.{after_sign, after_token, cleared, counted, is_light, load};
 ghost use Rattle.domino_syntax.specs.Weighing.{IsHeavyAt, Takes};
 
-use domino_tree::{Sign, Token};
+use domino_tree::{Effect, Sign, Token};
 use std::marker::Model;
 
 /// The weight that tokens may have.
@@ -102,18 +102,18 @@ impl Counters {
     fn take_sign(&mut self, sign: Sign) -> bool
         ensures { Takes result self.new (after_sign self.old sign) }
     {
-        match sign {
-            Sign::OpenRound | Sign::OpenSquare | Sign::OpenCurly => self.open(),
-            Sign::CloseRound | Sign::CloseSquare | Sign::CloseCurly => {
+        match sign.effect() {
+            Effect::Counts => self.count(),
+            Effect::Opens => self.open(),
+            Effect::Closes => {
                 self.close();
                 self.is_light()
             }
-            Sign::Semicolon => {
+            Effect::Clears => {
                 self.clear();
                 self.is_light()
             }
-            Sign::Assign | Sign::Colon | Sign::Comma | Sign::Dot => self.is_light(),
-            _ => self.count(),
+            Effect::Keeps => self.is_light(),
         }
     }
 

@@ -18,7 +18,8 @@ use Rattle.domino_tree.specs.declared.program.Stmt.TheVariants as s
 use Rattle.domino_tree.specs.declared.program.Arm.{Arm, fold-roll-Arm}
 use Rattle.domino_tree.specs.declared.program.Program.{Program}
 use Rattle.domino_tree.specs.Value.{Names, names_of, number_of, array_number, array_word}
-use Rattle.domino_tree.specs.Grammar.{sign_of, in_square, in_round, with_commas, separated, spelled, target_tokens, block_tokens, chained, with_elses, last_block, stmt_tokens, arm_tokens, function_tokens}
+use Rattle.domino_tree.specs.Grammar.{in_square, in_round, with_commas, separated, spelled, target_tokens, block_tokens, chained, with_elses, last_block, stmt_tokens, arm_tokens, function_tokens}
+use Rattle.domino_tree.specs.Operators.{sign_of}
 use Rattle.domino_tree.specs.Count.{Access, Tally, more, beside, together, registers, cell, tallying, tally, target_tally, last_tally, stmt_tallying, arm_tallying, stmt_tally, arm_tally, firsts, cost, count_of}
 use Rattle.domino_tree.proofs.ExprLemmas as x
 use Rattle.domino_tree.proofs.ExprLemmas.{Each}

@@ -9,7 +9,8 @@ use Rattle.domino_tree.specs.declared.token.Sign.TheVariants as sign
 use Rattle.domino_tree.specs.declared.expr.Expr.{Expr, ind-Expr, roll-Expr, map-Expr, fold-roll-Expr}
 use Rattle.domino_tree.specs.declared.expr.Expr.TheOpen as F
 use Rattle.domino_tree.specs.declared.expr.Expr.TheVariants as e
-use Rattle.domino_tree.specs.Grammar.{is_name, sign_before, sign_of, level, field_tokens, in_square, in_round, separated, spelling, spelled, standing, stands}
+use Rattle.domino_tree.specs.Grammar.{is_name, field_tokens, in_square, in_round, separated, spelling, spelled, standing, stands}
+use Rattle.domino_tree.specs.Operators.{sign_before, sign_of, level}
 
 -- ---- the tokens
 

@@ -7,14 +7,10 @@ use Rattle.std.specs.Prelude.{ℕ, suc, ℤ, pos, negsuc, Bool, true, false, not
 use Rattle.std.specs.List.{list_all}
 use Rattle.std.specs.Str.{bytes_eq}
 use Rattle.std.specs.Char.{is_ascii_alphabetic, is_ascii_alphanumeric}
-use Rattle.mp5_words.specs.declared.op.Op1.{Op1}
-use Rattle.mp5_words.specs.declared.op.Op1.TheVariants as one
-use Rattle.mp5_words.specs.declared.op.Op2.{Op2}
-use Rattle.mp5_words.specs.declared.op.Op2.TheVariants as two
+use Rattle.domino_tree.specs.Operators.{sign_before, sign_of, level}
 use Rattle.domino_tree.specs.declared.token.Token.{Token}
 use Rattle.domino_tree.specs.declared.token.Token.TheVariants as token
 use Rattle.domino_tree.specs.declared.token.Keyword.TheVariants as keyword
-use Rattle.domino_tree.specs.declared.token.Sign.{Sign}
 use Rattle.domino_tree.specs.declared.token.Sign.TheVariants as sign
 use Rattle.domino_tree.specs.declared.expr.Expr.{Expr, fold-Expr}
 use Rattle.domino_tree.specs.declared.expr.Expr.TheOpen.{Expr-F}
@@ -67,54 +63,6 @@ abbrev pub are_words : List Token → Bool
 are_words tokens = list_all is_word_token tokens
 
 -- ---- expressions
-
--- the sign that writes an operator before an expression
-abbrev pub sign_before : Op1 → Sign
-sign_before one.Neg = sign.Minus
-sign_before one.Not = sign.Bang
-sign_before one.Flip = sign.Tilde
-
--- the sign that writes an operator between two
-abbrev pub sign_of : Op2 → Sign
-sign_of two.Mul = sign.Star
-sign_of two.Div = sign.Slash
-sign_of two.Rem = sign.Percent
-sign_of two.Add = sign.Plus
-sign_of two.Sub = sign.Minus
-sign_of two.Shl = sign.ShiftLeft
-sign_of two.Shr = sign.ShiftRight
-sign_of two.Lt = sign.Less
-sign_of two.Le = sign.LessEqual
-sign_of two.Gt = sign.Greater
-sign_of two.Ge = sign.GreaterEqual
-sign_of two.Eq = sign.Equal
-sign_of two.Ne = sign.NotEqual
-sign_of two.BitAnd = sign.Ampersand
-sign_of two.BitXor = sign.Caret
-sign_of two.BitOr = sign.Bar
-sign_of two.And = sign.AndAnd
-sign_of two.Or = sign.OrOr
-
--- the level of an operator between two, from the loosest, 1, to the tightest, 10
-abbrev pub level : Op2 → ℕ
-level two.Mul = 10
-level two.Div = 10
-level two.Rem = 10
-level two.Add = 9
-level two.Sub = 9
-level two.Shl = 8
-level two.Shr = 8
-level two.Lt = 7
-level two.Le = 7
-level two.Gt = 7
-level two.Ge = 7
-level two.Eq = 6
-level two.Ne = 6
-level two.BitAnd = 5
-level two.BitXor = 4
-level two.BitOr = 3
-level two.And = 2
-level two.Or = 1
 
 -- tokens in a pair of brackets
 abbrev pub in_round : List Token → List Token

@@ -1,4 +1,5 @@
 pub use Rattle.mp5_words.specs.Words
+pub mod Operators
 pub mod Grammar
 pub mod Weight
 pub mod Derives

@@ -7,8 +7,7 @@ use Rattle.domino_tree.specs.declared.token.Token.{Token}
 use Rattle.domino_tree.specs.declared.token.Token.TheVariants as token
 use Rattle.domino_tree.specs.declared.token.Keyword.{Keyword}
 use Rattle.domino_tree.specs.declared.token.Keyword.TheVariants as keyword
-use Rattle.domino_tree.specs.declared.token.Sign.{Sign}
-use Rattle.domino_tree.specs.declared.token.Sign.TheVariants as sign
+use Rattle.domino_tree.specs.Operators.{sign_text}
 use Rattle.domino_tree.specs.declared.program.Item.{Item}
 use Rattle.domino_tree.specs.declared.program.Program.{Program}
 use Rattle.domino_tree.specs.Grammar.{item_tokens, packet_tokens, function_tokens, program_tokens}
@@ -20,41 +19,6 @@ keyword_text keyword.Int = codes "int"
 keyword_text keyword.Void = codes "void"
 keyword_text keyword.If = codes "if"
 keyword_text keyword.Else = codes "else"
-
--- the bytes of a sign
-abbrev pub sign_text : Sign → List ℕ
-sign_text sign.Plus = codes "+"
-sign_text sign.Minus = codes "-"
-sign_text sign.Star = codes "*"
-sign_text sign.Slash = codes "/"
-sign_text sign.Percent = codes "%"
-sign_text sign.ShiftLeft = codes "<<"
-sign_text sign.ShiftRight = codes ">>"
-sign_text sign.Less = codes "<"
-sign_text sign.LessEqual = codes "<="
-sign_text sign.Greater = codes ">"
-sign_text sign.GreaterEqual = codes ">="
-sign_text sign.Equal = codes "=="
-sign_text sign.NotEqual = codes "!="
-sign_text sign.Ampersand = codes "&"
-sign_text sign.Caret = codes "^"
-sign_text sign.Bar = codes "|"
-sign_text sign.AndAnd = codes "&&"
-sign_text sign.OrOr = codes "||"
-sign_text sign.Bang = codes "!"
-sign_text sign.Tilde = codes "~"
-sign_text sign.Assign = codes "="
-sign_text sign.Question = codes "?"
-sign_text sign.Colon = codes ":"
-sign_text sign.Semicolon = codes ";"
-sign_text sign.Comma = codes ","
-sign_text sign.Dot = codes "."
-sign_text sign.OpenRound = codes "("
-sign_text sign.CloseRound = codes ")"
-sign_text sign.OpenSquare = codes "["
-sign_text sign.CloseSquare = codes "]"
-sign_text sign.OpenCurly = codes "{"
-sign_text sign.CloseCurly = codes "}"
 
 -- the bytes of a token; a number is an unsigned decimal
 abbrev pub token_text : Token → List ℕ

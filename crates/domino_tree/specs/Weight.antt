@@ -6,7 +6,9 @@ use Rattle.std.specs.List.{fold}
 use Rattle.domino_tree.specs.declared.token.Token.{Token}
 use Rattle.domino_tree.specs.declared.token.Token.TheVariants as token
 use Rattle.domino_tree.specs.declared.token.Sign.{Sign}
-use Rattle.domino_tree.specs.declared.token.Sign.TheVariants as sign
+use Rattle.domino_tree.specs.declared.token.Effect.{Effect}
+use Rattle.domino_tree.specs.declared.token.Effect.TheVariants as effect
+use Rattle.domino_tree.specs.Operators.{sign_row}
 
 -- the top counter after `;`, where there is one
 abbrev pub cleared : List ℕ → List ℕ
@@ -18,40 +20,17 @@ abbrev pub counted : List ℕ → List ℕ
 counted [] = []
 counted (n ∷ ns) = suc n ∷ ns
 
+-- the counters after what a sign does to them
+abbrev pub after_effect : List ℕ → Effect → List ℕ
+after_effect ns effect.Counts = counted ns
+after_effect ns effect.Opens = 0 ∷ ns
+after_effect ns effect.Closes = drop 1 ns
+after_effect ns effect.Clears = cleared ns
+after_effect ns effect.Keeps = ns
+
 -- the counters after a sign
 abbrev pub after_sign : List ℕ → Sign → List ℕ
-after_sign ns sign.Plus = counted ns
-after_sign ns sign.Minus = counted ns
-after_sign ns sign.Star = counted ns
-after_sign ns sign.Slash = counted ns
-after_sign ns sign.Percent = counted ns
-after_sign ns sign.ShiftLeft = counted ns
-after_sign ns sign.ShiftRight = counted ns
-after_sign ns sign.Less = counted ns
-after_sign ns sign.LessEqual = counted ns
-after_sign ns sign.Greater = counted ns
-after_sign ns sign.GreaterEqual = counted ns
-after_sign ns sign.Equal = counted ns
-after_sign ns sign.NotEqual = counted ns
-after_sign ns sign.Ampersand = counted ns
-after_sign ns sign.Caret = counted ns
-after_sign ns sign.Bar = counted ns
-after_sign ns sign.AndAnd = counted ns
-after_sign ns sign.OrOr = counted ns
-after_sign ns sign.Bang = counted ns
-after_sign ns sign.Tilde = counted ns
-after_sign ns sign.Question = counted ns
-after_sign ns sign.Assign = ns
-after_sign ns sign.Colon = ns
-after_sign ns sign.Comma = ns
-after_sign ns sign.Dot = ns
-after_sign ns sign.Semicolon = cleared ns
-after_sign ns sign.OpenRound = 0 ∷ ns
-after_sign ns sign.OpenSquare = 0 ∷ ns
-after_sign ns sign.OpenCurly = 0 ∷ ns
-after_sign ns sign.CloseRound = drop 1 ns
-after_sign ns sign.CloseSquare = drop 1 ns
-after_sign ns sign.CloseCurly = drop 1 ns
+after_sign ns s = after_effect ns (sign_row s).effect
 
 -- the counters after a token: only signs count
 abbrev pub after_token : List ℕ → Token → List ℕ

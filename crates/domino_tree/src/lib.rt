@@ -8,11 +8,13 @@
 #![tactic(auto)]
 
 mod expr;
+mod operators;
 mod printing;
 mod program;
 mod token;
 
 pub use expr::Expr;
+pub use operators::{SIGNS, level, operator_before, operator_between, sign_before, sign_between};
 pub use printing::print;
 pub use program::{Arm, Function, Item, PacketDecl, Program, Size, Start, Stmt, Target};
-pub use token::{Keyword, Sign, Token};
+pub use token::{Effect, Keyword, Sign, Token};

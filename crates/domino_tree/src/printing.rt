@@ -2,15 +2,16 @@
 ghost use Rattle.std.specs.Prelude.{◌≡◌, ◌++◌, ◌∷◌, [], IfOk, OnOk, Some, flat_map, map, length, Option, List};
 ghost use Rattle.domino_tree.specs.declared.token.Token.TheVariants as Token;
 ghost use Rattle.domino_tree.specs.declared.token.Sign.TheVariants.{Assign, Semicolon};
-ghost use Rattle.domino_tree.specs.Text.{sign_text, keyword_text, added, written, written_line, item_line, canonical_tokens, text_of};
+ghost use Rattle.domino_tree.specs.Text.{keyword_text, added, written, written_line, item_line, canonical_tokens, text_of};
 ghost use Rattle.domino_tree.specs.Derives.{Derives};
-ghost use Rattle.domino_tree.specs.Grammar.{sign_before as sign_before_of, sign_of, spelled, in_round, in_square, block_tokens, separated, with_commas, field_tokens, target_tokens, stmt_tokens, arm_tokens, with_elses, chained, last_block, size_tokens, length_tokens, start_tokens, item_tokens, declaration, packet_tokens, function_tokens};
+ghost use Rattle.domino_tree.specs.Grammar.{spelled, in_round, in_square, block_tokens, separated, with_commas, field_tokens, target_tokens, stmt_tokens, arm_tokens, with_elses, chained, last_block, size_tokens, length_tokens, start_tokens, item_tokens, declaration, packet_tokens, function_tokens};
 
 use crate::expr::Expr;
+use crate::operators::{sign_before, sign_between};
 use crate::program::{Arm, Function, Item, PacketDecl, Program, Size, Start, Stmt, Target};
 use crate::token::{Keyword, Sign};
 use itoa::Buffer;
-use mp5_words::{Name, NoMemory, Op1, Op2};
+use mp5_words::{Name, NoMemory};
 use std::alloc::{AllocError, Global};
 
 // A space and a word at the end of the text.
@@ -19,46 +20,6 @@ fn put_word(out: &mut Vec<u8>, word: &[u8]) -> Result<(), AllocError>
 {
     out.push(b' ')?;
     out.extend_from_slice(word)
-}
-
-// The bytes of a sign.
-fn sign_bytes(sign: Sign) -> &'static str
-    ensures { result.now ≡ sign_text sign }
-{
-    match sign {
-        Sign::Plus => "+",
-        Sign::Minus => "-",
-        Sign::Star => "*",
-        Sign::Slash => "/",
-        Sign::Percent => "%",
-        Sign::ShiftLeft => "<<",
-        Sign::ShiftRight => ">>",
-        Sign::Less => "<",
-        Sign::LessEqual => "<=",
-        Sign::Greater => ">",
-        Sign::GreaterEqual => ">=",
-        Sign::Equal => "==",
-        Sign::NotEqual => "!=",
-        Sign::Ampersand => "&",
-        Sign::Caret => "^",
-        Sign::Bar => "|",
-        Sign::AndAnd => "&&",
-        Sign::OrOr => "||",
-        Sign::Bang => "!",
-        Sign::Tilde => "~",
-        Sign::Assign => "=",
-        Sign::Question => "?",
-        Sign::Colon => ":",
-        Sign::Semicolon => ";",
-        Sign::Comma => ",",
-        Sign::Dot => ".",
-        Sign::OpenRound => "(",
-        Sign::CloseRound => ")",
-        Sign::OpenSquare => "[",
-        Sign::CloseSquare => "]",
-        Sign::OpenCurly => "{",
-        Sign::CloseCurly => "}",
-    }
 }
 
 // The letters of a reserved name.
@@ -77,7 +38,7 @@ fn keyword_bytes(keyword: Keyword) -> &'static str
 fn put_sign(out: &mut Vec<u8>, sign: Sign) -> Result<(), AllocError>
     ensures { OnOk result (out.new.items ≡ added out.old.items (Token.Sign sign)) }
 {
-    put_word(out, sign_bytes(sign).as_bytes())
+    put_word(out, sign.text().as_bytes())
 }
 
 fn put_keyword(out: &mut Vec<u8>, keyword: Keyword) -> Result<(), AllocError>
@@ -105,43 +66,6 @@ fn put_field(out: &mut Vec<u8>, packet: &Name, field: &Name) -> Result<(), Alloc
     put_name(out, packet)?;
     put_sign(out, Sign::Dot)?;
     put_name(out, field)
-}
-
-// The sign of an operator before an expression.
-fn sign_before(op: Op1) -> Sign
-    ensures { result ≡ sign_before_of op }
-{
-    match op {
-        Op1::Neg => Sign::Minus,
-        Op1::Not => Sign::Bang,
-        Op1::Flip => Sign::Tilde,
-    }
-}
-
-// The sign of an operator between two expressions.
-fn sign_between(op: Op2) -> Sign
-    ensures { result ≡ sign_of op }
-{
-    match op {
-        Op2::Mul => Sign::Star,
-        Op2::Div => Sign::Slash,
-        Op2::Rem => Sign::Percent,
-        Op2::Add => Sign::Plus,
-        Op2::Sub => Sign::Minus,
-        Op2::Shl => Sign::ShiftLeft,
-        Op2::Shr => Sign::ShiftRight,
-        Op2::Lt => Sign::Less,
-        Op2::Le => Sign::LessEqual,
-        Op2::Gt => Sign::Greater,
-        Op2::Ge => Sign::GreaterEqual,
-        Op2::Eq => Sign::Equal,
-        Op2::Ne => Sign::NotEqual,
-        Op2::BitAnd => Sign::Ampersand,
-        Op2::BitXor => Sign::Caret,
-        Op2::BitOr => Sign::Bar,
-        Op2::And => Sign::AndAnd,
-        Op2::Or => Sign::OrOr,
-    }
 }
 
 #[cycle(expression)]
@@ -429,6 +353,7 @@ pub fn print(alloc: Global, program: &Program) -> Result<Vec<u8>, NoMemory>
 #[cfg(test)]
 mod tests {
     use super::*;
+    use mp5_words::Op2;
     use sqlite_items::{Boxed, Items};
     use std::test::Fail;
 

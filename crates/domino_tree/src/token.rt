@@ -79,6 +79,21 @@ pub enum Sign {
     CloseCurly,
 }
 
+/// What a sign does to the weight of tokens.
+#[derive(Clone, Copy, Debug, PartialEq, Eq)]
+pub enum Effect {
+    /// One more counts: an operator, or `?`.
+    Counts,
+    /// A bracket opens.
+    Opens,
+    /// A bracket closes.
+    Closes,
+    /// A statement or a declaration ends.
+    Clears,
+    /// Nothing.
+    Keeps,
+}
+
 /// A token of a program text.
 #[derive(Debug, Drop)]
 pub enum Token {

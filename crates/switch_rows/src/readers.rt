@@ -495,65 +495,91 @@ fn assert_capture(
     Ok(())
 }
 
+// Edits of a capture of one frame: a place, the bytes that stand there, and how it ends. In order: the other
+// three beginnings of a capture, a block capture's, and that of a compressed file (most significant byte first
+// the versions 2 and 4 are written in other bytes); versions; the zone, the figures and the longest capture; the
+// link, whose low 16 bits are 1; the moment, and an original length that is less than the captured one, or more;
+// the captured length, of which 26 leaves 16 bytes that are the header of a longer record.
+const EDITS: &str = "\
+0|a1-b2-c3-d4|5 512 1024\n\
+0|4d-3c-b2-a1|read\n\
+0|a1-b2-3c-4d|5 512 1024\n\
+0|0a-0d-0d-0a|3\n\
+0|1f-8b-08-00|4 1f8b0800\n\
+0|d5|4 d5c3b2a1\n\
+1|c2|4 d4c2b2a1\n\
+2|b3|4 d4c3b3a1\n\
+3|a0|4 d4c3b2a0\n\
+4|03|5 3 4\n\
+4|01|5 1 4\n\
+6|03|5 2 3\n\
+6|05|5 2 5\n\
+5|01|5 258 4\n\
+7|01|5 2 260\n\
+4|04-00-02-00|5 4 2\n\
+8|ff-ff-ff-ff|read\n\
+12|ff-ff-ff-ff|read\n\
+16|00-00-00-00|read\n\
+8|01-02-03-04-05-06-07-08-09-0a-0b-0c|read\n\
+20|00|6 0\n\
+20|02|6 2\n\
+20|65|6 101\n\
+20|71|6 113\n\
+21|01|6 257\n\
+20|02-00-01-00|6 65538\n\
+22|01|read\n\
+23|04|read\n\
+20|01-00-ff-ff|read\n\
+24|ff-ff-ff-ff-ff-ff-ff-ff|read\n\
+36|29|read\n\
+36|00-00-00-00|read\n\
+36|ff-ff-ff-ff|read\n\
+32|29|8 81\n\
+32|2b|8 24\n\
+32|1a|7 66 335546880\n\
+34|01|8 24\n\
+34|04|7 24 262186\n\
+35|80|7 24 2147483690";
+
+// The bytes that these are in hexadecimal digits.
+fn bytes_of(alloc: Global, digits: &str) -> Result<Vec<u8>, AllocError> {
+    let mut bytes = Vec::new(alloc);
+    for byte in digits.split('-') {
+        bytes.push(u8::from_str_radix(byte, 16).unwrap_or(0))?;
+    }
+    Ok(bytes)
+}
+
+// Each of these edits of a capture of one packet: it is read as one, or refused with this number and these values.
+fn assert_edits(
+    rt: &impl Abort,
+    alloc: Global,
+    capture: &[u8],
+    edits: &str,
+) -> Result<(), AllocError> {
+    for edit in edits.lines() {
+        let mut parts = edit.split('|');
+        let (Some(place), Some(digits), Some(want)) = (parts.next(), parts.next(), parts.next())
+        else {
+            assert_eq!(rt; edit, "three parts");
+            continue;
+        };
+        let place = place.parse().unwrap_or(0usize);
+        let mut bytes = Vec::from_slice(alloc, capture)?;
+        for (old, new) in bytes.iter_mut().skip(place).zip(&bytes_of(alloc, digits)?) {
+            *old = *new;
+        }
+        let want = if want == "read" { Ok(1) } else { Err(want) };
+        assert_capture(rt, alloc, &bytes, want, edit)?;
+    }
+    Ok(())
+}
+
 // A capture of one frame with other bytes in one place.
 #[test]
 fn edited_captures(rt: HostRuntime) -> Result<(), Fail> {
     let alloc = rt.alloc();
-    let rows: [(usize, &[u8], Result<u8, &str>); 39] = [
-        // The other three beginnings of a capture, a block capture's, and that of a compressed file. Most
-        // significant byte first the versions 2 and 4 are written in other bytes.
-        (0, &[0xa1, 0xb2, 0xc3, 0xd4], Err("5 512 1024")),
-        (0, &[0x4d, 0x3c, 0xb2, 0xa1], Ok(1)),
-        (0, &[0xa1, 0xb2, 0x3c, 0x4d], Err("5 512 1024")),
-        (0, &[0x0a, 0x0d, 0x0d, 0x0a], Err("3")),
-        (0, &[0x1f, 0x8b, 0x08, 0x00], Err("4 1f8b0800")),
-        (0, &[0xd5], Err("4 d5c3b2a1")),
-        (1, &[0xc2], Err("4 d4c2b2a1")),
-        (2, &[0xb3], Err("4 d4c3b3a1")),
-        (3, &[0xa0], Err("4 d4c3b2a0")),
-        (4, &[3], Err("5 3 4")),
-        (4, &[1], Err("5 1 4")),
-        (6, &[3], Err("5 2 3")),
-        (6, &[5], Err("5 2 5")),
-        (5, &[1], Err("5 258 4")),
-        (7, &[1], Err("5 2 260")),
-        (4, &[4, 0, 2, 0], Err("5 4 2")),
-        // The zone, the figures and the longest capture.
-        (8, &[0xff, 0xff, 0xff, 0xff], Ok(1)),
-        (12, &[0xff, 0xff, 0xff, 0xff], Ok(1)),
-        (16, &[0, 0, 0, 0], Ok(1)),
-        (8, &[1, 2, 3, 4, 5, 6, 7, 8, 9, 10, 11, 12], Ok(1)),
-        // The link, whose low 16 bits are 1.
-        (20, &[0], Err("6 0")),
-        (20, &[2], Err("6 2")),
-        (20, &[101], Err("6 101")),
-        (20, &[113], Err("6 113")),
-        (21, &[1], Err("6 257")),
-        (20, &[2, 0, 1, 0], Err("6 65538")),
-        (22, &[1], Ok(1)),
-        (23, &[4], Ok(1)),
-        (20, &[1, 0, 0xff, 0xff], Ok(1)),
-        // The moment, and an original length that is less than the captured one, or more.
-        (24, &[0xff, 0xff, 0xff, 0xff, 0xff, 0xff, 0xff, 0xff], Ok(1)),
-        (36, &[41], Ok(1)),
-        (36, &[0, 0, 0, 0], Ok(1)),
-        (36, &[0xff, 0xff, 0xff, 0xff], Ok(1)),
-        // The captured length. With 26, the 16 bytes left are the header of a longer record.
-        (32, &[41], Err("8 81")),
-        (32, &[43], Err("8 24")),
-        (32, &[26], Err("7 66 335546880")),
-        (34, &[1], Err("8 24")),
-        (34, &[4], Err("7 24 262186")),
-        (35, &[0x80], Err("7 24 2147483690")),
-    ];
-    for (place, bytes, want) in rows {
-        let mut capture = capture_of(alloc, &FRAME)?;
-        for (old, new) in capture.iter_mut().skip(place).zip(bytes) {
-            *old = *new;
-        }
-        let at = format!(in alloc; "{bytes:?} at {place}")?;
-        assert_capture(&rt, alloc, &capture, want, &at)?;
-    }
+    assert_edits(&rt, alloc, &capture_of(alloc, &FRAME)?, EDITS)?;
     Ok(())
 }
 
@@ -563,49 +589,35 @@ const BIG_HEADERS: [u8; 40] = [
     0, 0, 0, 1, 0, 0, 0, 0, 0, 0, 0, 42, 0, 0, 0, 42, // record
 ];
 
-// Edits of a capture that is written most significant byte first. The version is judged before the
-// link, and the link before the records.
+// The same, of a capture that is written most significant byte first. The version is judged before the link, and
+// the link before the records.
+const BIG_EDITS: &str = "\
+0|a1|read\n\
+2|3c-4d|read\n\
+0|d4-c3-b2-a1|5 512 1024\n\
+3|d5|4 a1b2c3d5\n\
+4|02|5 514 4\n\
+5|03|5 3 4\n\
+6|04-00|5 2 1024\n\
+7|05|5 2 5\n\
+20|01-00-00-00|6 16777216\n\
+22|01|6 257\n\
+23|71|6 113\n\
+20|04-00|read\n\
+7|03-00-00-00-00-00-00-00-00-00-00-00-00-00-00-00-02|5 2 3\n\
+23|02-00-00-00-00-00-00-00-00-ff-ff-ff-ff|6 2\n\
+32|00-04-00-00|8 24\n\
+32|00-04-00-01|7 24 262145\n\
+32|2a-00-00-00|7 24 704643072\n\
+35|29|8 81\n\
+35|2b|8 24";
+
 #[test]
 fn edited_big_captures(rt: HostRuntime) -> Result<(), Fail> {
     let alloc = rt.alloc();
-    let rows: [(usize, &[u8], Result<u8, &str>); 19] = [
-        (0, &[0xa1], Ok(1)),
-        (2, &[0x3c, 0x4d], Ok(1)),
-        (0, &[0xd4, 0xc3, 0xb2, 0xa1], Err("5 512 1024")),
-        (3, &[0xd5], Err("4 a1b2c3d5")),
-        (4, &[2], Err("5 514 4")),
-        (5, &[3], Err("5 3 4")),
-        (6, &[4, 0], Err("5 2 1024")),
-        (7, &[5], Err("5 2 5")),
-        (20, &[1, 0, 0, 0], Err("6 16777216")),
-        (22, &[1], Err("6 257")),
-        (23, &[113], Err("6 113")),
-        (20, &[4, 0], Ok(1)),
-        (
-            7,
-            &[3, 0, 0, 0, 0, 0, 0, 0, 0, 0, 0, 0, 0, 0, 0, 0, 2],
-            Err("5 2 3"),
-        ),
-        (
-            23,
-            &[2, 0, 0, 0, 0, 0, 0, 0, 0, 255, 255, 255, 255],
-            Err("6 2"),
-        ),
-        (32, &[0, 4, 0, 0], Err("8 24")),
-        (32, &[0, 4, 0, 1], Err("7 24 262145")),
-        (32, &[42, 0, 0, 0], Err("7 24 704643072")),
-        (35, &[41], Err("8 81")),
-        (35, &[43], Err("8 24")),
-    ];
-    for (place, bytes, want) in rows {
-        let mut capture = Vec::from_slice(alloc, &BIG_HEADERS)?;
-        capture.extend_from_slice(&FRAME)?;
-        for (old, new) in capture.iter_mut().skip(place).zip(bytes) {
-            *old = *new;
-        }
-        let at = format!(in alloc; "{bytes:?} at {place}")?;
-        assert_capture(&rt, alloc, &capture, want, &at)?;
-    }
+    let mut capture = Vec::from_slice(alloc, &BIG_HEADERS)?;
+    capture.extend_from_slice(&FRAME)?;
+    assert_edits(&rt, alloc, &capture, BIG_EDITS)?;
     Ok(())
 }
 

@@ -1,9 +1,6 @@
 -- The causes of an answer, from those of each step.
-use Rattle.std.proofs.Common.{◌≡◌, ◌≢◌, ◌≤◌, ◌+◌, ◌-◌, ◌^◌, ◌⊎◌, inl, inr, ℕ, Bool, true, false, List, take, Option, None, Some, Ok, refl, sym, ap, subst, arith, min}
+use Rattle.std.proofs.Common.{◌≡◌, ◌≢◌, ◌≤◌, ◌+◌, ◌-◌, ◌^◌, ◌∙◌, inl, inr, ℕ, List, take, Option, Some, Ok, refl, sym, ap, subst, arith, min}
 use Rattle.std.specs.Prelude.{IfSome}
-use Rattle.std.specs.Str.{bytes_eq}
-use Rattle.std.specs.Bool.{Decides}
-use Rattle.std.proofs.lemmas.Slice.Eq.{bytes_eq-Decides}
 use Rattle.capture_io.specs.declared.fault.CaptureFault.{CaptureFault}
 use Rattle.capture_io.specs.ClassicCapture.{Record, IsCapture}
 use Rattle.capture_io.specs.Header.{headers}
@@ -16,112 +13,176 @@ use Rattle.switch_runner.specs.declared.status.ProgramFault.{ProgramFault}
 use Rattle.switch_runner.specs.declared.status.ProgramFault.TheVariants as program
 use Rattle.switch_runner.specs.declared.status.Status.{Status}
 use Rattle.switch_runner.specs.declared.status.Status.TheVariants as status
-use Rattle.switch_runner.specs.Causes.{Seen, Because, IsAccepted, IsProgram, IsUnaccepted, IsNoProgram, IsSomeCapture, IsNoCapture, IsAboutProgram, IsReadThrough, OfReport, ProgramAlways, CaptureAlways, IsComplete}
-use Rattle.switch_runner.specs.Outside.{Rose, TookFront, gained}
-use Rattle.switch_runner.specs.Report.{report}
+use Rattle.switch_runner.specs.CommandLine.{Request}
+use Rattle.switch_runner.specs.Causes.{Cause, Gained, RoseFor, IsRunnable, IsAccepted, IsProgram, IsUnaccepted, IsNoProgram, IsSomeCapture, IsNoCapture, IsAboutProgram, IsOrNoMemory, IsReadThrough, OfReport, report_of}
+use Rattle.switch_runner.specs.Outside.{StoreView, SinkView, ChangesOnly, IsKept, TookFront, gained}
 use Rattle.domino_check.specs.Refused.{Passes, Refused}
 use Rattle.domino_check.proofs.RefusedLemmas.{not_refused, one_refusal as one_refusal_of_checks}
-use Rattle.switch_runner.specs.Top.{NoSource, NoHeaders, Ends}
+use Rattle.switch_runner.specs.Top.{NoSource, NoHeaders, Ends, Serves}
+use Rattle.switch_runner.proofs.MemoryLemmas.{same_or_not}
 use Rattle.switch_runner.proofs.TopLemmas.{if_told, told_read, capture_read}
 
--- no program was read
-pub because_source : (s : Status) (seen : Seen) → NoSource seen.text seen.program_before seen.program_after s → seen.new ≡ seen.old → Because s seen
-because_source status.Done seen h e = absurd h
-because_source status.Help seen h e = absurd h
-because_source status.Words seen h e = absurd h
-because_source (status.Program f) seen h e = (h.0, h.1, e)
-because_source (status.Capture f) seen h e = absurd h
-because_source status.ReadFault seen h e = (inl h, e)
-because_source status.WriteFault seen h e = absurd h
-because_source status.NoMemory seen h e = e
-
--- a program was read, and no capture
-pub because_headers : (s : Status) (seen : Seen) → IfSome seen.text IsProgram → NoHeaders seen.bytes seen.capture_before seen.capture_after s → seen.new ≡ seen.old → Because s seen
-because_headers status.Done seen p h e = absurd h
-because_headers status.Help seen p h e = absurd h
-because_headers status.Words seen p h e = absurd h
-because_headers (status.Program f) seen p h e = absurd h
-because_headers (status.Capture f) seen p h e = (h.0, p, h.1, e)
-because_headers status.ReadFault seen p h e = (inr (p, h), e)
-because_headers status.WriteFault seen p h e = absurd h
-because_headers status.NoMemory seen p h e = e
-
--- the report of what was read
-of_report : (seen : Seen) (p : Program) (records : List Record) (P : List ℕ → Type 0) → IfSome seen.text (λ text. IsAccepted text p) → IfSome seen.bytes (λ bytes. IsCapture bytes records)
-    → P (report p (headers p.packet.fields records)) → OfReport seen P
-of_report seen p records P accepted captured h = record {
-  program = if_told seen.text (λ text. IsAccepted text p) IsProgram (λ text a. (p, a)) accepted;
-  capture = if_told seen.bytes (λ bytes. IsCapture bytes records) IsSomeCapture (λ bytes c. (records, c)) captured;
-  report =
-      if_told seen.text (λ text. IsAccepted text p)
-      (λ text. IfSome seen.bytes (λ bytes. (q : Program) × (rs : List Record) × IsAccepted text q × IsCapture bytes rs × P (report q (headers q.packet.fields rs))))
-      (λ text a. if_told seen.bytes (λ bytes. IsCapture bytes records)
-      (λ bytes. (q : Program) × (rs : List Record) × IsAccepted text q × IsCapture bytes rs × P (report q (headers q.packet.fields rs)))
-      (λ bytes c. (p, records, a, c, h)) captured)
-      accepted;
-}
-
--- both were read, and the transaction was run
-pub because_ran : (s : Status) (seen : Seen) (p : Program) (records : List Record) → IfSome seen.text (λ text. IsAccepted text p) → IfSome seen.bytes (λ bytes. IsCapture bytes records)
-    → Ends (report p (headers p.packet.fields records)) seen.old seen.new seen.out_before seen.out_after s → Because s seen
-because_ran status.Done seen p records a c h = of_report seen p records (λ text. seen.new ≡ gained text seen.old) a c h
-because_ran status.Help seen p records a c h = absurd h
-because_ran status.Words seen p records a c h = absurd h
-because_ran (status.Program f) seen p records a c h = absurd h
-because_ran (status.Capture f) seen p records a c h = absurd h
-because_ran status.ReadFault seen p records a c h = absurd h
-because_ran status.WriteFault seen p records a c h = (h.0, of_report seen p records (TookFront seen.old seen.new) a c h.1)
-because_ran status.NoMemory seen p records a c h = h
-
--- no answer about the program comes later
-pub not_program_headers : (s : Status) (bytes : Option (List ℕ)) (before now : ℕ) → NoHeaders bytes before now s → IsAboutProgram s → ⊥
-not_program_headers status.Done bytes before now h a = a
-not_program_headers status.Help bytes before now h a = a
-not_program_headers status.Words bytes before now h a = a
-not_program_headers (status.Program f) bytes before now h a = h
-not_program_headers (status.Capture f) bytes before now h a = a
-not_program_headers status.ReadFault bytes before now h a = a
-not_program_headers status.WriteFault bytes before now h a = a
-not_program_headers status.NoMemory bytes before now h a = a
-
-pub not_program_ran : (s : Status) (text : List ℕ) (old new : Option (List ℕ)) (before now : ℕ) → Ends text old new before now s → IsAboutProgram s → ⊥
-not_program_ran status.Done text old new before now h a = a
-not_program_ran status.Help text old new before now h a = a
-not_program_ran status.Words text old new before now h a = a
-not_program_ran (status.Program f) text old new before now h a = h
-not_program_ran (status.Capture f) text old new before now h a = a
-not_program_ran status.ReadFault text old new before now h a = a
-not_program_ran status.WriteFault text old new before now h a = a
-not_program_ran status.NoMemory text old new before now h a = a
-
--- a count that rose since a later moment rose since an earlier one
-pub headers_earlier : (s : Status) (bytes : Option (List ℕ)) (first before now : ℕ) → first ≤ before → NoHeaders bytes before now s → NoHeaders bytes first now s
-headers_earlier status.Done bytes first before now e h = h
-headers_earlier status.Help bytes first before now e h = h
-headers_earlier status.Words bytes first before now e h = h
-headers_earlier (status.Program f) bytes first before now e h = h
-headers_earlier (status.Capture f) bytes first before now e h = h
-headers_earlier status.ReadFault bytes first before now e h = let k : min (before + 1) (2 ^ 64 - 1) ≤ now = h in omega arith
-headers_earlier status.WriteFault bytes first before now e h = h
-headers_earlier status.NoMemory bytes first before now e h = h
-
-same_or_not : (xs ys : List ℕ) → (xs ≡ ys) ⊎ (xs ≢ ys)
-same_or_not xs ys = either (bytes_eq xs ys) (xs ≡ ys) (bytes_eq-Decides xs ys)
-  where
-    either : (b : Bool) (P : Type 0) → Decides b P → P ⊎ (¬ P)
-    either true P d = inl (d.0 refl)
-    either false P d = inr (λ p. let e : ◌≡◌ {A = Bool} false true = d.1 p in cc)
-
--- a call that moves the count of one name only up, and leaves those of the others, lowers none
-pub none_falls : (before after : List ℕ → ℕ) (name other : List ℕ) → ((n : List ℕ) → n ≢ name → after n ≡ before n) → before name ≤ after name → before other ≤ after other
-none_falls before after name other stay later = elim (same_or_not other name) [
-  | inl e ↦ subst (λ (n : List ℕ). before n ≤ after n) (sym e) later
-  | inr d ↦ (let s : after other ≡ before other = stay other d in omega arith)
-]
-
--- what is told of a name decides the answer, where no read and no write failed
+-- what follows of all that is told of a name holds of what is told
 told_as : (told : Option (List ℕ)) (bytes : List ℕ) (P : List ℕ → Type 0) → told ≡ Some bytes → IfSome told P → P bytes
 told_as told bytes P e h = let k : IfSome (Some bytes) P = subst (λ (o : Option (List ℕ)). IfSome o P) e h in k
+
+-- the same bytes are told later
+told_later : (old new : Option (List ℕ)) (P : List ℕ → Type 0) → new ≡ old → IfSome new P → IfSome old P
+told_later old new P e h = subst (λ (o : Option (List ℕ)). IfSome o P) e h
+
+-- a text that is accepted is a program
+program_told : (told : Option (List ℕ)) (p : Program) → IfSome told (λ text. IsAccepted text p) → IfSome told IsProgram
+program_told told p h = if_told told (λ text. IsAccepted text p) IsProgram (λ text a. (p, a)) h
+
+-- ---- the store, after one read and after two
+
+-- no count fell where only one changed
+none_fell : (name : List ℕ) (old new : StoreView) → ChangesOnly name old new → (other : List ℕ) → old.faults other ≤ new.faults other
+none_fell name old new only other = elim (same_or_not other name) [
+  | inl e ↦ subst (λ (n : List ℕ). old.faults n ≤ new.faults n) (sym e) only.later
+  | inr d ↦ (let s : new.faults other ≡ old.faults other = only.others other d in omega arith)
+]
+
+kept_once : (name : List ℕ) (old new : StoreView) → ChangesOnly name old new → IsKept old new
+kept_once name old new only = record { told = only.told; later = none_fell name old new only }
+
+kept_twice : (a b : List ℕ) (old mid new : StoreView) → ChangesOnly a old mid → ChangesOnly b mid new → IsKept old new
+kept_twice a b old mid new first second = record {
+  told = λ name. second.told name ∙ first.told name;
+  later = λ name. omega (arith, none_fell a old mid first name, none_fell b mid new second name);
+}
+
+others_twice : (a b : List ℕ) (old mid new : StoreView) → ChangesOnly a old mid → ChangesOnly b mid new → (name : List ℕ) → name ≢ a → name ≢ b → new.faults name ≡ old.faults name
+others_twice a b old mid new first second name not_a not_b = second.others name not_b ∙ first.others name not_a
+
+-- a count that rose since a later moment rose since an earlier one
+rose_earlier : (a name : List ℕ) (old mid new : StoreView) → ChangesOnly a old mid → RoseFor name mid new → RoseFor name old new
+rose_earlier a name old mid new first rose =
+    let h : old.faults name ≤ mid.faults name = none_fell a old mid first name in
+    let k : min (mid.faults name + 1) (2 ^ 64 - 1) ≤ new.faults name = rose in
+    omega arith
+
+-- ---- no program was read
+
+cause_source : (s : Status) (r : Request) (old new : StoreView) → NoSource r.program old new s → Cause s r old new
+cause_source (status.Program f) r old new h = h
+cause_source status.ReadFault r old new h = inl h
+cause_source status.NoMemory r old new h = tt
+cause_source s r old new h = absurd h
+
+gained_source : (s : Status) (r : Request) (old new : StoreView) (out : SinkView) → NoSource r.program old new s → Gained s r old out out
+gained_source (status.Program f) r old new out h = refl
+gained_source status.ReadFault r old new out h = refl
+gained_source status.NoMemory r old new out h = refl
+gained_source s r old new out h = absurd h
+
+pub serves_no_source : (s : Status) (r : Request) (old new : StoreView) (out : SinkView) → ChangesOnly r.program old new → NoSource r.program old new s → Serves r old new out out s
+serves_no_source s r old new out only h = record {
+  cause = cause_source s r old new h;
+  outputs = record { later = omega arith; text = gained_source s r old new out h };
+  kept = kept_once r.program old new only;
+  others = λ name not_program not_capture. only.others name not_program;
+  stops = record { answered = λ about. only; told = λ text told isnt. only };
+}
+
+-- ---- a program was read, and no capture
+
+cause_headers : (s : Status) (r : Request) (old mid new : StoreView) → ChangesOnly r.program old mid → IfSome (old.told r.program) IsProgram → NoHeaders r.capture mid new s → Cause s r old new
+cause_headers (status.Capture f) r old mid new first p h = (h.0, p, told_later (old.told r.capture) (mid.told r.capture) (IsNoCapture f) (first.told r.capture) h.1)
+cause_headers status.ReadFault r old mid new first p h = inr (p, rose_earlier r.program r.capture old mid new first h)
+cause_headers status.NoMemory r old mid new first p h = tt
+cause_headers s r old mid new first p h = absurd h
+
+gained_headers : (s : Status) (r : Request) (old mid new : StoreView) (out : SinkView) → NoHeaders r.capture mid new s → Gained s r old out out
+gained_headers (status.Capture f) r old mid new out h = refl
+gained_headers status.ReadFault r old mid new out h = refl
+gained_headers status.NoMemory r old mid new out h = refl
+gained_headers s r old mid new out h = absurd h
+
+-- no answer about the program comes later
+not_program_headers : (s : Status) (name : List ℕ) (old new : StoreView) → NoHeaders name old new s → IsAboutProgram s → ⊥
+not_program_headers (status.Program f) name old new h a = h
+not_program_headers s name old new h a = a
+
+-- a told text that is a program doesn't stop a call
+not_stopped : (told : Option (List ℕ)) (text : List ℕ) → IfSome told IsProgram → told ≡ Some text → ¬ IsProgram text → ⊥
+not_stopped told text p e isnt = isnt (told_as told text IsProgram e p)
+
+pub serves_no_headers : (s : Status) (r : Request) (p : Program) (old mid new : StoreView) (out : SinkView) → ChangesOnly r.program old mid → ChangesOnly r.capture mid new
+    → IfSome (old.told r.program) (λ text. IsAccepted text p) → NoHeaders r.capture mid new s → Serves r old new out out s
+serves_no_headers s r p old mid new out first second accepted h =
+    let program : IfSome (old.told r.program) IsProgram = program_told (old.told r.program) p accepted in
+    record {
+      cause = cause_headers s r old mid new first program h;
+      outputs = record { later = omega arith; text = gained_headers s r old mid new out h };
+      kept = kept_twice r.program r.capture old mid new first second;
+      others = others_twice r.program r.capture old mid new first second;
+      stops = record {
+        answered = λ about. absurd (not_program_headers s r.capture mid new h about);
+        told = λ text told isnt. absurd (not_stopped (old.told r.program) text program told isnt);
+      };
+    }
+
+-- ---- both were read, and the transaction was run
+
+runnable : (r : Request) (store : StoreView) (p : Program) (records : List Record) → IfSome (store.told r.program) (λ text. IsAccepted text p) → IfSome (store.told r.capture) (λ bytes. IsCapture bytes records) → IsRunnable r store
+runnable r store p records accepted captured = record {
+  program = program_told (store.told r.program) p accepted;
+  capture = if_told (store.told r.capture) (λ bytes. IsCapture bytes records) IsSomeCapture (λ bytes c. (records, c)) captured;
+}
+
+-- the report of what was read
+of_report : (r : Request) (store : StoreView) (p : Program) (records : List Record) (P : List ℕ → Type 0) → IfSome (store.told r.program) (λ text. IsAccepted text p) → IfSome (store.told r.capture) (λ bytes. IsCapture bytes records)
+    → P (report_of r.mode p (headers p.packet.fields records)) → OfReport r store P
+of_report r store p records P accepted captured h =
+    if_told (store.told r.program) (λ text. IsAccepted text p)
+    (λ text. IfSome (store.told r.capture) (λ bytes. (q : Program) × (rs : List Record) × IsAccepted text q × IsCapture bytes rs × P (report_of r.mode q (headers q.packet.fields rs))))
+    (λ text a. if_told (store.told r.capture) (λ bytes. IsCapture bytes records)
+    (λ bytes. (q : Program) × (rs : List Record) × IsAccepted text q × IsCapture bytes rs × P (report_of r.mode q (headers q.packet.fields rs)))
+    (λ bytes c. (p, records, a, c, h)) captured)
+    accepted
+
+cause_ran : (s : Status) (r : Request) (text : List ℕ) (old new : StoreView) (before after : SinkView) → IsRunnable r old → Ends text before after s → Cause s r old new
+cause_ran status.Done r text old new before after runs h = runs
+cause_ran status.WriteFault r text old new before after runs h = runs
+cause_ran status.NoMemory r text old new before after runs h = tt
+cause_ran s r text old new before after runs h = absurd h
+
+gained_ran : (s : Status) (r : Request) (p : Program) (records : List Record) (store : StoreView) (before after : SinkView) → IfSome (store.told r.program) (λ text. IsAccepted text p) → IfSome (store.told r.capture) (λ bytes. IsCapture bytes records)
+    → Ends (report_of r.mode p (headers p.packet.fields records)) before after s → Gained s r store before after
+gained_ran status.Done r p records store before after a c h = of_report r store p records (λ text. after.taken ≡ gained text before.taken) a c h.taken
+gained_ran status.WriteFault r p records store before after a c h = (h.rose, of_report r store p records (TookFront before.taken after.taken) a c h.front)
+gained_ran status.NoMemory r p records store before after a c h = h
+gained_ran s r p records store before after a c h = absurd h
+
+later_ran : (s : Status) (text : List ℕ) (before after : SinkView) → Ends text before after s → before.faults ≤ after.faults
+later_ran status.Done text before after h = h.later
+later_ran status.WriteFault text before after h = h.later
+later_ran status.NoMemory text before after h = let e : after.faults ≡ before.faults = ap (λ (v : SinkView). v.faults) h in omega arith
+later_ran s text before after h = absurd h
+
+not_program_ran : (s : Status) (text : List ℕ) (before after : SinkView) → Ends text before after s → IsAboutProgram s → ⊥
+not_program_ran (status.Program f) text before after h a = h
+not_program_ran s text before after h a = a
+
+pub serves_run : (s : Status) (r : Request) (p : Program) (records : List Record) (old mid new : StoreView) (before after : SinkView) → ChangesOnly r.program old mid → ChangesOnly r.capture mid new
+    → IfSome (old.told r.program) (λ text. IsAccepted text p) → IfSome (mid.told r.capture) (λ bytes. IsCapture bytes records)
+    → Ends (report_of r.mode p (headers p.packet.fields records)) before after s → Serves r old new before after s
+serves_run s r p records old mid new before after first second accepted captured h =
+    let text : List ℕ = report_of r.mode p (headers p.packet.fields records) in
+    let told : IfSome (old.told r.capture) (λ bytes. IsCapture bytes records) = told_later (old.told r.capture) (mid.told r.capture) (λ bytes. IsCapture bytes records) (first.told r.capture) captured in
+    record {
+      cause = cause_ran s r text old new before after (runnable r old p records accepted told) h;
+      outputs = record { later = later_ran s text before after h; text = gained_ran s r p records old before after accepted told h };
+      kept = kept_twice r.program r.capture old mid new first second;
+      others = others_twice r.program r.capture old mid new first second;
+      stops = record {
+        answered = λ about. absurd (not_program_ran s text before after h about);
+        told = λ text e isnt. absurd (not_stopped (old.told r.program) text (program_told (old.told r.program) p accepted) e isnt);
+      };
+    }
+
+-- ---- what is told decides the answer, where no read failed
 
 -- bytes that are told aren't both a capture and refused
 not_both : (bytes : List ℕ) (f : CaptureFault) → IsSomeCapture bytes → IsNoCapture f bytes → ⊥
@@ -154,60 +215,61 @@ told_or_not : (text : List ℕ) (f : ProgramFault) → IsProgram text → IsNoPr
 told_or_not text f a fault = accepted_or_not (take 65537 text) a.0 f (told_read (take 65537 text) text a.0 refl a.1.read) a.1.passes fault
 
 -- a told text isn't both a program and none
-not_program : (seen : Seen) (text : List ℕ) (f : ProgramFault) → seen.text ≡ Some text → IsNoProgram f text → IfSome seen.text IsProgram → ⊥
-not_program seen text f e none h = told_or_not text f (told_as seen.text text IsProgram e h) none
+not_program : (told : Option (List ℕ)) (text : List ℕ) (f : ProgramFault) → told ≡ Some text → IsNoProgram f text → IfSome told IsProgram → ⊥
+not_program told text f e none h = told_or_not text f (told_as told text IsProgram e h) none
 
-is_program : (seen : Seen) (text : List ℕ) (f : ProgramFault) → seen.text ≡ Some text → IsProgram text → IfSome seen.text (IsNoProgram f) → ⊥
-is_program seen text f e p h = told_or_not text f p (told_as seen.text text (IsNoProgram f) e h)
+is_program : (told : Option (List ℕ)) (text : List ℕ) (f : ProgramFault) → told ≡ Some text → IsProgram text → IfSome told (IsNoProgram f) → ⊥
+is_program told text f e p h = told_or_not text f p (told_as told text (IsNoProgram f) e h)
 
-not_capture : (seen : Seen) (bytes : List ℕ) (f : CaptureFault) → seen.bytes ≡ Some bytes → IsNoCapture f bytes → IfSome seen.bytes IsSomeCapture → ⊥
-not_capture seen bytes f e none h = not_both bytes f (told_as seen.bytes bytes IsSomeCapture e h) none
+not_capture : (told : Option (List ℕ)) (bytes : List ℕ) (f : CaptureFault) → told ≡ Some bytes → IsNoCapture f bytes → IfSome told IsSomeCapture → ⊥
+not_capture told bytes f e none h = not_both bytes f (told_as told bytes IsSomeCapture e h) none
 
-is_capture : (seen : Seen) (bytes : List ℕ) (f : CaptureFault) → seen.bytes ≡ Some bytes → IsSomeCapture bytes → IfSome seen.bytes (IsNoCapture f) → ⊥
-is_capture seen bytes f e c h = not_both bytes f c (told_as seen.bytes bytes (IsNoCapture f) e h)
+is_capture : (told : Option (List ℕ)) (bytes : List ℕ) (f : CaptureFault) → told ≡ Some bytes → IsSomeCapture bytes → IfSome told (IsNoCapture f) → ⊥
+is_capture told bytes f e c h = not_both bytes f c (told_as told bytes (IsNoCapture f) e h)
 
 -- no read failed, so it is no read fault
-no_read_fault : (seen : Seen) → IsReadThrough seen → (Rose seen.program_before seen.program_after ⊎ (IfSome seen.text IsProgram × Rose seen.capture_before seen.capture_after)) → ⊥
-no_read_fault seen through h = elim h [ inl r ↦ through.0 r | inr r ↦ through.1 r.1 ]
+no_read_fault : (r : Request) (old new : StoreView) → IsReadThrough r old new → Cause status.ReadFault r old new → ⊥
+no_read_fault r old new through h = elim h [ inl rose ↦ through.0 rose | inr rose ↦ through.1 rose.1 ]
 
-pub program_always : (s : Status) (seen : Seen) → Because s seen → ProgramAlways s seen
-program_always status.Done seen h text f e none through = absurd (not_program seen text f e none h.program)
-program_always status.Help seen h text f e none through = absurd h
-program_always status.Words seen h text f e none through = absurd h
-program_always (status.Program first) seen h text f e none through = inl (ap status.Program (one_fault (take 65537 text) first f (told_as seen.text text (IsNoProgram first) e h.1) none))
-program_always (status.Capture fault) seen h text f e none through = absurd (not_program seen text f e none h.1)
-program_always status.ReadFault seen h text f e none through = absurd (no_read_fault seen through h.0)
-program_always status.WriteFault seen h text f e none through = absurd (not_program seen text f e none h.1.program)
-program_always status.NoMemory seen h text f e none through = inr refl
+pub program_always : (s : Status) (r : Request) (old new : StoreView) → Cause s r old new
+    → (text : List ℕ) (f : ProgramFault) → old.told r.program ≡ Some text → IsNoProgram f text → IsReadThrough r old new → IsOrNoMemory s (status.Program f)
+program_always status.Done r old new h text f e none through = absurd (not_program (old.told r.program) text f e none h.program)
+program_always status.Help r old new h text f e none through = absurd h
+program_always status.Words r old new h text f e none through = absurd h
+program_always (status.Program first) r old new h text f e none through = inl (ap status.Program (one_fault (take 65537 text) first f (told_as (old.told r.program) text (IsNoProgram first) e h.1) none))
+program_always (status.Capture fault) r old new h text f e none through = absurd (not_program (old.told r.program) text f e none h.1)
+program_always status.ReadFault r old new h text f e none through = absurd (no_read_fault r old new through h)
+program_always status.WriteFault r old new h text f e none through = absurd (not_program (old.told r.program) text f e none h.program)
+program_always status.NoMemory r old new h text f e none through = inr refl
 
-pub capture_always : (s : Status) (seen : Seen) → Because s seen → CaptureAlways s seen
-capture_always status.Done seen h text bytes fault e f p none through = absurd (not_capture seen bytes fault f none h.capture)
-capture_always status.Help seen h text bytes fault e f p none through = absurd h
-capture_always status.Words seen h text bytes fault e f p none through = absurd h
-capture_always (status.Program first) seen h text bytes fault e f p none through = absurd (is_program seen text first e p h.1)
-capture_always (status.Capture first) seen h text bytes fault e f p none through = inl (ap status.Capture (one_refusal (take 134217729 bytes) first fault (told_as seen.bytes bytes (IsNoCapture first) f h.2) none))
-capture_always status.ReadFault seen h text bytes fault e f p none through = absurd (no_read_fault seen through h.0)
-capture_always status.WriteFault seen h text bytes fault e f p none through = absurd (not_capture seen bytes fault f none h.1.capture)
-capture_always status.NoMemory seen h text bytes fault e f p none through = inr refl
+pub capture_always : (s : Status) (r : Request) (old new : StoreView) → Cause s r old new
+    → (text bytes : List ℕ) (f : CaptureFault) → old.told r.program ≡ Some text → old.told r.capture ≡ Some bytes → IsProgram text → IsNoCapture f bytes → IsReadThrough r old new
+    → IsOrNoMemory s (status.Capture f)
+capture_always status.Done r old new h text bytes fault e f p none through = absurd (not_capture (old.told r.capture) bytes fault f none h.capture)
+capture_always status.Help r old new h text bytes fault e f p none through = absurd h
+capture_always status.Words r old new h text bytes fault e f p none through = absurd h
+capture_always (status.Program first) r old new h text bytes fault e f p none through = absurd (is_program (old.told r.program) text first e p h.1)
+capture_always (status.Capture first) r old new h text bytes fault e f p none through =
+    inl (ap status.Capture (one_refusal (take 134217729 bytes) first fault (told_as (old.told r.capture) bytes (IsNoCapture first) f h.2) none))
+capture_always status.ReadFault r old new h text bytes fault e f p none through = absurd (no_read_fault r old new through h)
+capture_always status.WriteFault r old new h text bytes fault e f p none through = absurd (not_capture (old.told r.capture) bytes fault f none h.capture)
+capture_always status.NoMemory r old new h text bytes fault e f p none through = inr refl
 
-pub complete : (s : Status) (seen : Seen) → Because s seen → IsComplete s seen
-complete status.Done seen h text bytes e f p c through out = inl refl
-complete status.Help seen h text bytes e f p c through out = absurd h
-complete status.Words seen h text bytes e f p c through out = absurd h
-complete (status.Program fault) seen h text bytes e f p c through out = absurd (is_program seen text fault e p h.1)
-complete (status.Capture fault) seen h text bytes e f p c through out = absurd (is_capture seen bytes fault f c h.2)
-complete status.ReadFault seen h text bytes e f p c through out = absurd (no_read_fault seen through h.0)
-complete status.WriteFault seen h text bytes e f p c through out = absurd (out h.0)
-complete status.NoMemory seen h text bytes e f p c through out = inr refl
+pub complete : (s : Status) (r : Request) (old new : StoreView) → Cause s r old new
+    → (text bytes : List ℕ) → old.told r.program ≡ Some text → old.told r.capture ≡ Some bytes → IsProgram text → IsSomeCapture bytes → IsReadThrough r old new → s ≢ status.WriteFault
+    → IsOrNoMemory s status.Done
+complete status.Done r old new h text bytes e f p c through wrote = inl refl
+complete status.Help r old new h text bytes e f p c through wrote = absurd h
+complete status.Words r old new h text bytes e f p c through wrote = absurd h
+complete (status.Program fault) r old new h text bytes e f p c through wrote = absurd (is_program (old.told r.program) text fault e p h.1)
+complete (status.Capture fault) r old new h text bytes e f p c through wrote = absurd (is_capture (old.told r.capture) bytes fault f c h.2)
+complete status.ReadFault r old new h text bytes e f p c through wrote = absurd (no_read_fault r old new through h)
+complete status.WriteFault r old new h text bytes e f p c through wrote = absurd (wrote refl)
+complete status.NoMemory r old new h text bytes e f p c through wrote = inr refl
 
 -- an answer with such a cause isn't Help, nor Words
-pub not_help : (s : Status) (seen : Seen) → Because s seen → s ≡ status.Help → ⊥
-not_help s seen h e = let k : Because status.Help seen = subst (λ (x : Status). Because x seen) e h in k
+pub not_help : (s : Status) (r : Request) (old new : StoreView) → Cause s r old new → s ≡ status.Help → ⊥
+not_help s r old new h e = let k : Cause status.Help r old new = subst (λ (x : Status). Cause x r old new) e h in k
 
-pub not_words : (s : Status) (seen : Seen) → Because s seen → s ≡ status.Words → ⊥
-not_words s seen h e = let k : Because status.Words seen = subst (λ (x : Status). Because x seen) e h in k
-
--- what follows for the names that the words ask for
-pub if_asked : {A : Type 0} (asked : Option A) (P Q : A → Type 0) → ((names : A) → P names → Q names) → IfSome asked P → IfSome asked Q
-if_asked None P Q f h = tt
-if_asked (Some names) P Q f h = f names h
+pub not_words : (s : Status) (r : Request) (old new : StoreView) → Cause s r old new → s ≡ status.Words → ⊥
+not_words s r old new h e = let k : Cause status.Words r old new = subst (λ (x : Status). Cause x r old new) e h in k

@@ -10,21 +10,22 @@ use Rattle.clap.specs.declared.parser.matches.Found.{Found}
 use Rattle.clap.proofs.WalkLemmas.{first_value-rows}
 use Rattle.switch_runner.specs.declared.status.Status.{Status}
 use Rattle.switch_runner.specs.declared.status.Status.TheVariants as status
-use Rattle.switch_runner.specs.Causes.{Because, ComesWhere, Seen}
-use Rattle.switch_runner.specs.CommandLine.{AsksForHelp, IsRefused, NotTaken, arguments, asked, faults, files, files_of, files_without, ours, refusal}
+use Rattle.switch_runner.specs.Causes.{Cause, ComesWhere}
+use Rattle.switch_runner.specs.Outside.{StoreView}
+use Rattle.switch_runner.specs.CommandLine.{Request, AsksForHelp, IsRefused, NotTaken, arguments, asked, faults, request_from, request_of, request_without, ours, refusal}
 use Rattle.switch_runner.proofs.CauseLemmas.{not_words, not_help}
 use Rattle.switch_runner.proofs.OneFault.{IsOne, all_of_one, one_built}
 
-files_rows : (f : Found) → files_of (first_value f (codes "mode")) (first_value f (codes "program")) (first_value f (codes "capture")) ≡ files (rows_of f)
-files_rows f =
-    ap (λ (mode : Option Text). files_of mode (first_value f (codes "program")) (first_value f (codes "capture"))) (first_value-rows f (codes "mode"))
-    ∙ ap (λ (program : Option Text). files_of (first_of (codes "mode") (rows_of f)) program (first_value f (codes "capture"))) (first_value-rows f (codes "program"))
-    ∙ ap (λ (capture : Option Text). files_of (first_of (codes "mode") (rows_of f)) (first_of (codes "program") (rows_of f)) capture) (first_value-rows f (codes "capture"))
+request_rows : (f : Found) → request_of (first_value f (codes "mode")) (first_value f (codes "program")) (first_value f (codes "capture")) ≡ request_from (rows_of f)
+request_rows f =
+    ap (λ (mode : Option Text). request_of mode (first_value f (codes "program")) (first_value f (codes "capture"))) (first_value-rows f (codes "mode"))
+    ∙ ap (λ (program : Option Text). request_of (first_of (codes "mode") (rows_of f)) program (first_value f (codes "capture"))) (first_value-rows f (codes "program"))
+    ∙ ap (λ (capture : Option Text). request_of (first_of (codes "mode") (rows_of f)) (first_of (codes "program") (rows_of f)) capture) (first_value-rows f (codes "capture"))
 
--- words in which there is no error ask for the files of their arguments
+-- words in which there is no error ask for the request of their arguments
 pub asked_is : (words : List Text) (f : Found) → faults words ≡ [] → rows_of f ≡ arguments words
-    → asked words ≡ files_of (first_value f (codes "mode")) (first_value f (codes "program")) (first_value f (codes "capture"))
-asked_is words f none same = ap (λ (kinds : Kinds). files_without kinds (arguments words)) none ∙ ap files (sym same) ∙ sym (files_rows f)
+    → asked words ≡ request_of (first_value f (codes "mode")) (first_value f (codes "program")) (first_value f (codes "capture"))
+asked_is words f none same = ap (λ (kinds : Kinds). request_without kinds (arguments words)) none ∙ ap request_from (sym same) ∙ sym (request_rows f)
 
 pub refused_without : (words : List Text) → faults words ≡ [] → asked words ≡ None → IsRefused words
 refused_without words none e = (e, λ help. (let f : ◌≡◌ {A = Kinds} [] (kind.DisplayHelp ∷ []) = sym none ∙ help in let g : ⊥ = cc in g))
@@ -37,7 +38,7 @@ one_fault words = one_built (built ours) nothing_held (argument_words ours words
 refused_by : (words : List Text) (k : ErrorKind) → k ≢ kind.DisplayHelp → IsAmong k (faults words) → IsRefused words
 refused_by words k other among =
     let only : faults words ≡ k ∷ [] = all_of_one (faults words) k (one_fault words) among in (
-      ap (λ (kinds : Kinds). files_without kinds (arguments words)) only,
+      ap (λ (kinds : Kinds). request_without kinds (arguments words)) only,
       λ help. (let same : ◌≡◌ {A = Kinds} (k ∷ []) (kind.DisplayHelp ∷ []) = sym only ∙ help in other (let e : k ≡ kind.DisplayHelp = cc in e)),
     )
 
@@ -50,17 +51,17 @@ not_taken words k (inr h) = refused_by words k (λ e. (let f : ⊥ = cc in f)) h
 
 -- a call for help isn't taken
 help_not_taken : (words : List Text) → AsksForHelp words → asked words ≡ None
-help_not_taken words help = ap (λ (kinds : Kinds). files_without kinds (arguments words)) help
+help_not_taken words help = ap (λ (kinds : Kinds). request_without kinds (arguments words)) help
 
 not_both : {A : Type 0} (o : Option A) (x : A) → o ≡ Some x → o ≡ None → ⊥
 not_both {A = A} o x some none = let f : ◌≡◌ {A = Option A} (Some x) None = sym some ∙ none in let g : ⊥ = cc in g
 
 -- the clauses on Help and Words, where the words are taken
-pub taken_help : (words : List Text) (s : Status) (seen : Seen) (names : Text × Text) → asked words ≡ Some names → Because s seen → ComesWhere (AsksForHelp words) s status.Help
-taken_help words s seen names e h = (λ help. absurd (not_help s seen h help), λ help. absurd (not_both (asked words) names e (help_not_taken words help)))
+pub taken_help : (words : List Text) (s : Status) (r : Request) (old new : StoreView) → asked words ≡ Some r → Cause s r old new → ComesWhere (AsksForHelp words) s status.Help
+taken_help words s r old new e h = (λ help. absurd (not_help s r old new h help), λ help. absurd (not_both (asked words) r e (help_not_taken words help)))
 
-pub taken_words : (words : List Text) (s : Status) (seen : Seen) (names : Text × Text) → asked words ≡ Some names → Because s seen → ComesWhere (IsRefused words) s status.Words
-taken_words words s seen names e h = (λ bad. absurd (not_words s seen h bad), λ refused. absurd (not_both (asked words) names e refused.0))
+pub taken_words : (words : List Text) (s : Status) (r : Request) (old new : StoreView) → asked words ≡ Some r → Cause s r old new → ComesWhere (IsRefused words) s status.Words
+taken_words words s r old new e h = (λ bad. absurd (not_words s r old new h bad), λ refused. absurd (not_both (asked words) r e refused.0))
 
 -- the same, where they aren't, or where memory ran out
 pub not_taken_help : (words : List Text) (s : Status) → NotTaken words s → ComesWhere (AsksForHelp words) s status.Help
@@ -87,13 +88,12 @@ if_any None P h = tt
 if_any (Some x) P h = h x
 
 -- taken words are answered by such a status for want of memory alone
-pub not_taken_because : (words : List Text) (s : Status) (seen : Text × Text → Seen) → ((names : Text × Text) → (seen names).new ≡ (seen names).old) → NotTaken words s
-    → IfSome (asked words) (λ names. Because s (seen names))
-not_taken_because words status.Help seen same h = if_none (asked words) (λ names. Because status.Help (seen names)) (help_not_taken words h)
-not_taken_because words status.Words seen same h = if_none (asked words) (λ names. Because status.Words (seen names)) h.0
-not_taken_because words status.NoMemory seen same h = if_any (asked words) (λ names. Because status.NoMemory (seen names)) same
-not_taken_because words s seen same h = absurd h
+pub not_taken_asked : (words : List Text) (s : Status) (P : Status → Request → Type 0) → ((r : Request) → P status.NoMemory r) → NotTaken words s → IfSome (asked words) (P s)
+not_taken_asked words status.Help P free h = if_none (asked words) (P status.Help) (help_not_taken words h)
+not_taken_asked words status.Words P free h = if_none (asked words) (P status.Words) h.0
+not_taken_asked words status.NoMemory P free h = if_any (asked words) (P status.NoMemory) free
+not_taken_asked words s P free h = absurd h
 
--- names that are asked for aren't missing
-pub taken_untouched : (words : List Text) (names : Text × Text) (P : Type 0) → asked words ≡ Some names → asked words ≡ None → P
-taken_untouched words names P some none = absurd (not_both (asked words) names some none)
+-- a request isn't missing
+pub taken_untouched : (words : List Text) (r : Request) (P : Type 0) → asked words ≡ Some r → asked words ≡ None → P
+taken_untouched words r P some none = absurd (not_both (asked words) r some none)

@@ -8,3 +8,4 @@ pub mod TopLemmas
 pub mod CauseLemmas
 pub mod OneFault
 pub mod CommandLemmas
+pub mod LawLemmas

@@ -4,10 +4,11 @@ use Rattle.std.specs.Fmt.{signed_decimal}
 use Rattle.std.specs.List.{slice_get}
 use Rattle.std.proofs.lemmas.Option.{get_or_from_slice_get}
 use Rattle.capture_io.specs.Rows.{rows}
-use Rattle.std.proofs.lemmas.List.{length-map, map-append, take_more, drop_more}
+use Rattle.std.proofs.lemmas.Grind.{flat_map-append}
+use Rattle.std.proofs.lemmas.List.{append-nil, length-map, map-append, take_more, drop_more}
 use Rattle.mp5_words.specs.Cells.{word_at, cells_at}
 use Rattle.domino_check.specs.declared.numbered.ArrayInfo.{ArrayInfo}
-use Rattle.switch_runner.specs.Report.{label, fields_text, packet_line, packet_lines, cell_line, cell_lines, register_lines, HasCells}
+use Rattle.switch_runner.specs.Report.{label, fields_text, packet_line, packet_lines, cell_line, cell_lines, register_lines, HasCells, done_line, run_text, text_of}
 
 both : {A B C : Type 0} (f : A → B → C) (a a' : A) (b b' : B) → a ≡ a' → b ≡ b' → f a b ≡ f a' b'
 both f a a' b b' p q = ap (λ x. f x b) p ∙ ap (f a') q
@@ -27,19 +28,37 @@ fields_from ls zs i l e z d h k p q =
     rw (add-one, drop-cons ls i e, drop-cons zs i d)
     (ap (λ y. y ++ fields_text (drop (suc i) ls) (drop (suc i) zs)) (both (λ x y. x ++ signed_decimal y) (get_or ls i e) l (get_or zs i d) z (sym p) (sym q)))
 
+-- lines and more lines as a text
+text-append : (a b : List (List ℕ)) → text_of (a ++ b) ≡ text_of a ++ text_of b
+text-append a b = flat_map-append (λ (line : List ℕ). line) a b
+
+-- one line as a text
+text_one : (line : List ℕ) → text_of (line ∷ []) ≡ line
+text_one line = append-nil line
+
 -- the lines of a cell and of those after it
 pub cells_from : (info : ArrayInfo) (zs : List ℤ) (i : ℕ) (z : ℤ) → i < length zs → z ≡ word_at zs i
-    → cell_lines info i (drop i zs) ≡ cell_line info i z ++ cell_lines info (i + 1) (drop (i + 1) zs)
+    → text_of (cell_lines info i (drop i zs)) ≡ text_of (cell_line info i z) ++ text_of (cell_lines info (i + 1) (drop (i + 1) zs))
 cells_from info zs i z h e =
-    rw (drop_more zs i (pos 0) h)
-    (ap (λ y. cell_line info i y ++ cell_lines info (i + 1) (drop (i + 1) zs)) (sym e))
+    ap (λ (l : List ℤ). text_of (cell_lines info i l)) (drop_more zs i (pos 0) h)
+    ∙ ap (λ (y : ℤ). text_of (cell_line info i y ++ cell_lines info (i + 1) (drop (i + 1) zs))) (sym e)
+    ∙ text-append (cell_line info i z) (cell_lines info (i + 1) (drop (i + 1) zs))
 
 -- the lines of an array and of those after it
 pub arrays_from : (infos : List ArrayInfo) (cells : List (List ℤ)) (a : ℕ) (info : ArrayInfo) → a < length infos → a < length cells → info ≡ get_or infos a info
-    → register_lines (drop a infos) (drop a cells) ≡ cell_lines info 0 (cells_at cells a) ++ register_lines (drop (a + 1) infos) (drop (a + 1) cells)
+    → text_of (register_lines (drop a infos) (drop a cells)) ≡ text_of (cell_lines info 0 (cells_at cells a)) ++ text_of (register_lines (drop (a + 1) infos) (drop (a + 1) cells))
 arrays_from infos cells a info h k e =
     rw (drop_more infos a info h, drop_more cells a [] k)
-    (ap (λ y. cell_lines y 0 (cells_at cells a) ++ register_lines (drop (a + 1) infos) (drop (a + 1) cells)) (sym e))
+    (ap (λ y. text_of (cell_lines y 0 (cells_at cells a) ++ register_lines (drop (a + 1) infos) (drop (a + 1) cells))) (sym e)
+    ∙ text-append (cell_lines info 0 (cells_at cells a)) (register_lines (drop (a + 1) infos) (drop (a + 1) cells)))
+
+-- the parts of a report
+pub run_parts : (labels : List (List ℕ)) (infos : List ArrayInfo) (packets cells : List (List ℤ)) (n : ℕ)
+    → run_text labels infos packets cells n ≡ text_of (packet_lines labels 0 packets) ++ (text_of (register_lines infos cells) ++ done_line n)
+run_parts labels infos packets cells n =
+    text-append (packet_lines labels 0 packets) (register_lines infos cells ++ done_line n ∷ [])
+    ∙ ap (λ (l : List ℕ). text_of (packet_lines labels 0 packets) ++ l)
+    (text-append (register_lines infos cells) (done_line n ∷ []) ∙ ap (λ (l : List ℕ). text_of (register_lines infos cells) ++ l) (text_one (done_line n)))
 
 -- an array has the cells that it is declared with
 pub cells_of_array : (infos : List ArrayInfo) (cells : List (List ℤ)) (a : ℕ) (info : ArrayInfo) → a < length infos → info ≡ get_or infos a info → HasCells infos cells
@@ -58,15 +77,15 @@ pub rows_from : (count t width : ℕ) (words : List ℤ) → t < count → rows 
 rows_from count t width words h = let e : count - t ≡ suc (count - (t + 1)) = omega arith in rw e refl
 
 packets_after : (labels : List (List ℕ)) (count t width : ℕ) (words : List ℤ) → t < count
-    → packet_lines labels t (rows (count - t) width words) ≡ packet_line labels t (take width words) ++ packet_lines labels (t + 1) (rows (count - (t + 1)) width (drop width words))
-packets_after labels count t width words h = ap (packet_lines labels t) (rows_from count t width words h)
+    → text_of (packet_lines labels t (rows (count - t) width words)) ≡ packet_line labels t (take width words) ++ text_of (packet_lines labels (t + 1) (rows (count - (t + 1)) width (drop width words)))
+packets_after labels count t width words h = ap (λ (l : List (List ℤ)). text_of (packet_lines labels t l)) (rows_from count t width words h)
 
 pub packets_from : (labels : List (List ℕ)) (count t width : ℕ) (words front back : List ℤ) → t < count → width ≡ length labels → front ≡ take width words → back ≡ drop width words
-    → packet_lines labels t (rows (count - t) (length labels) words) ≡ packet_line labels t front ++ packet_lines labels (t + 1) (rows (count - (t + 1)) (length labels) back)
+    → text_of (packet_lines labels t (rows (count - t) (length labels) words)) ≡ packet_line labels t front ++ text_of (packet_lines labels (t + 1) (rows (count - (t + 1)) (length labels) back))
 packets_from labels count t width words front back h e f b =
     packets_after labels count t (length labels) words h
-    ∙ ap (λ l. packet_line labels t l ++ packet_lines labels (t + 1) (rows (count - (t + 1)) (length labels) (drop (length labels) words))) (ap (λ w. take w words) (sym e) ∙ sym f)
-    ∙ ap (λ l. packet_line labels t front ++ packet_lines labels (t + 1) (rows (count - (t + 1)) (length labels) l)) (ap (λ w. drop w words) (sym e) ∙ sym b)
+    ∙ ap (λ l. packet_line labels t l ++ text_of (packet_lines labels (t + 1) (rows (count - (t + 1)) (length labels) (drop (length labels) words)))) (ap (λ w. take w words) (sym e) ∙ sym f)
+    ∙ ap (λ l. packet_line labels t front ++ text_of (packet_lines labels (t + 1) (rows (count - (t + 1)) (length labels) l))) (ap (λ w. drop w words) (sym e) ∙ sym b)
 
 -- a row fits what is left of the rows
 pub row_fits : (count t width len : ℕ) → t < count → len ≡ (count - t) * width → width ≤ len

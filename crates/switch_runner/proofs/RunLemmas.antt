@@ -1,14 +1,19 @@
 -- A run on a bench, packet by packet.
-use Rattle.std.proofs.Common.{◌≡◌, ◌∙◌, ◌+◌, ℕ, ℤ, List, [], ◌∷◌, ◌++◌, drop, Some, sym, ap, append_assoc}
+use Rattle.std.proofs.Common.{◌≡◌, ◌≤◌, ◌<◌, ◌∙◌, ◌+◌, ◌*◌, ℕ, ℤ, List, [], ◌∷◌, ◌++◌, length, take, drop, Some, refl, sym, ap, append_assoc, arith}
 use Rattle.std.specs.Prelude.{slice_get}
 use Rattle.std.specs.List.{flat_map}
-use Rattle.std.proofs.lemmas.List.{drop_more}
+use Rattle.std.proofs.lemmas.List.{append-nil, drop_all, drop_more, drop-drop, length-append, length-drop, length-take-le, take_all}
+use Rattle.std.proofs.Math.Seq.{drop-append_seam, take-append-add, take-append_seam}
 use Rattle.std.proofs.lemmas.Option.{get_or_from_slice_get, slice_get_within}
 use Rattle.domino_tree.specs.declared.program.Program.{Program}
 use Rattle.domino_tree.specs.Value.{names_of}
 use Rattle.domino_tree.specs.Sequential.{start_cells}
 use Rattle.domino_eval.specs.Parts.{Held, executed}
+use Rattle.capture_io.specs.Rows.{rows}
+use Rattle.capture_io.proofs.PacketRows.{length-rows, slice_get-rows}
 use Rattle.switch_runner.specs.Running.{IsEnd, run_bench}
+use Rattle.switch_runner.specs.Top.{AreWide}
+use Rattle.switch_runner.proofs.TopLemmas.{rows_back}
 
 -- the bench with other cells
 abbrev pub with_cells : Held → List (List ℤ) → Held
@@ -48,17 +53,123 @@ cells_more bench next headers t header whole there written before =
     ∙ sym (ap (λ l. (run_bench bench l).cells) (drop_here headers t header there))
     ∙ before
 
--- a run that begins with no packets and the start values is the program's
-pub run_end : (program : Program) (bench : Held) (headers : List (List ℤ)) (none words : List ℤ) (after : Held)
+-- ---- the packets of a run, in one list of words
+
+-- the words after one packet more: those before it, its own, and those behind it
+pub record Step (words new fields : List ℤ) (start width : ℕ) : Type 0 where
+  pub within : start + width ≤ length words
+  pub new_is : new ≡ take start words ++ (fields ++ drop (start + width) words)
+  pub wide : length fields ≡ width
+
+step_front : (words new fields : List ℤ) (start width : ℕ) → Step words new fields start width → take (start + width) new ≡ take start words ++ fields
+step_front words new fields start width s =
+    let first : length (take start words) ≡ start = length-take-le start words (omega (arith, s.within)) in
+    let both : start + width ≡ length (take start words) + length fields = omega (arith, first, s.wide) in
+    ap (take (start + width)) s.new_is
+    ∙ ap (λ (n : ℕ). take n (take start words ++ (fields ++ drop (start + width) words))) both
+    ∙ take-append-add (take start words) (fields ++ drop (start + width) words) (length fields)
+    ∙ ap (λ (l : List ℤ). take start words ++ l) (take-append_seam fields (drop (start + width) words))
+
+step_back : (words new fields : List ℤ) (start width : ℕ) → Step words new fields start width → drop (start + width) new ≡ drop (start + width) words
+step_back words new fields start width s =
+    let first : length (take start words) ≡ start = length-take-le start words (omega (arith, s.within)) in
+    let both : start + width ≡ length (take start words ++ fields) = omega (arith, first, s.wide, length-append (take start words) fields) in
+    ap (drop (start + width)) (s.new_is ∙ sym (append_assoc (take start words) fields (drop (start + width) words)))
+    ∙ ap (λ (n : ℕ). drop n ((take start words ++ fields) ++ drop (start + width) words)) both
+    ∙ drop-append_seam (take start words ++ fields) (drop (start + width) words)
+
+step_length : (words new fields : List ℤ) (start width : ℕ) → Step words new fields start width → length new ≡ length words
+step_length words new fields start width s =
+    let first : length (take start words) ≡ start = length-take-le start words (omega (arith, s.within)) in
+    ap length s.new_is
+    ∙ omega (arith, s.within, s.wide, first, length-append (take start words) (fields ++ drop (start + width) words), length-append fields (drop (start + width) words), length-drop (start + width) words)
+
+-- a run has come to packet t: those before it are done, it and the others stand as they did at first, and what is
+-- left ends as the whole run does
+pub record Comes (first now : Held) (initial words : List ℤ) (count width t : ℕ) : Type 0 where
+  pub long : length words ≡ count * width
+  pub left : drop (t * width) words ≡ drop (t * width) initial
+  pub program : now.program ≡ first.program
+  pub packets :
+      take (t * width) words ++ flat_map (λ (p : List ℤ). p) (run_bench now (drop t (rows count width initial))).packets
+      ≡ flat_map (λ (p : List ℤ). p) (run_bench first (rows count width initial)).packets
+  pub cells : (run_bench now (drop t (rows count width initial))).cells ≡ (run_bench first (rows count width initial)).cells
+
+pub comes_first : (bench : Held) (words : List ℤ) (count width : ℕ) → length words ≡ count * width → Comes bench bench words words count width 0
+comes_first bench words count width e =
+    let none : 0 * width ≡ 0 = omega arith in
+    record {
+      long = e;
+      left = refl;
+      program = refl;
+      packets = ap (λ (n : ℕ). take n words ++ flat_map (λ (p : List ℤ). p) (run_bench bench (rows count width words)).packets) none;
+      cells = refl;
+    }
+
+-- the header of the next packet stands in the words
+header_there : (initial words : List ℤ) (count width t : ℕ) → t < count → drop (t * width) words ≡ drop (t * width) initial → slice_get (rows count width initial) t ≡ Some (take width (drop (t * width) words))
+header_there initial words count width t h left = slice_get-rows count width initial t h ∙ ap (λ (l : List ℤ). Some (take width l)) (sym left)
+
+pub comes_next : (first now next : Held) (initial words new : List ℤ) (count width t : ℕ) → t < count
+    → Step words new (executed now (take width (drop (t * width) words))).store.fields (t * width) width
+    → next ≡ with_cells now (executed now (take width (drop (t * width) words))).store.cells
+    → Comes first now initial words count width t → Comes first next initial new count width (t + 1)
+comes_next first now next initial words new count width t h step after before =
+    let header : List ℤ = take width (drop (t * width) words) in
+    let there : slice_get (rows count width initial) t ≡ Some header = header_there initial words count width t h before.left in
+    let more : (t + 1) * width ≡ t * width + width = omega arith in
+    let whole : List ℤ = flat_map (λ (p : List ℤ). p) (run_bench first (rows count width initial)).packets in
+    let pushed : take ((t + 1) * width) new ≡ take (t * width) words ++ (executed now header).store.fields =
+    ap (λ (n : ℕ). take n new) more ∙ step_front words new (executed now header).store.fields (t * width) width step in
+    record {
+      long = step_length words new (executed now header).store.fields (t * width) width step ∙ before.long;
+      left =
+          ap (λ (n : ℕ). drop n new) more
+          ∙ step_back words new (executed now header).store.fields (t * width) width step
+          ∙ sym (drop-drop width (t * width) words)
+          ∙ ap (drop width) before.left
+          ∙ drop-drop width (t * width) initial
+          ∙ ap (λ (n : ℕ). drop n initial) (sym more);
+      program = ap (λ (b : Held). b.program) after ∙ before.program;
+      packets = packets_more now next (rows count width initial) t header (take (t * width) words) whole (take ((t + 1) * width) new) there pushed after before.packets;
+      cells = cells_more now next (rows count width initial) t header (run_bench first (rows count width initial)).cells there after before.cells;
+    }
+
+-- no row is left
+no_rows : (count width : ℕ) (initial : List ℤ) → drop count (rows count width initial) ≡ []
+no_rows count width initial = drop_all count (rows count width initial) (let e : length (rows count width initial) ≡ count = length-rows count width initial in omega arith)
+
+pub ended_packets : (first now : Held) (initial words : List ℤ) (count width : ℕ) → Comes first now initial words count width count → words ≡ flat_map (λ (p : List ℤ). p) (run_bench first (rows count width initial)).packets
+ended_packets first now initial words count width c =
+    let all : take (count * width) words ≡ words = take_all (count * width) words (omega (arith, c.long)) in
+    sym all
+    ∙ sym (append-nil (take (count * width) words))
+    ∙ ap (λ (l : List (List ℤ)). take (count * width) words ++ flat_map (λ (p : List ℤ). p) (run_bench now l).packets) (sym (no_rows count width initial))
+    ∙ c.packets
+
+pub ended_bench : (first now : Held) (initial words : List ℤ) (count width : ℕ) → Comes first now initial words count width count → now ≡ with_cells first (run_bench first (rows count width initial)).cells
+ended_bench first now initial words count width c =
+    let cells : now.cells ≡ (run_bench first (rows count width initial)).cells =
+    ap (λ (l : List (List ℤ)). (run_bench now l).cells) (sym (no_rows count width initial)) ∙ c.cells in
+    ap (λ (p : Program). record { program = p; cells = now.cells }) c.program ∙ ap (λ (l : List (List ℤ)). record { program = first.program; cells = l }) cells
+
+-- a run over a capture's words from the start values on is the program's
+pub run_end : (program : Program) (bench : Held) (headers : List (List ℤ)) (count width : ℕ) (initial words : List ℤ) (after : Held)
     → bench ≡ record { program = program; cells = start_cells (names_of program) }
-    → none ≡ []
-    → words ≡ none ++ flat_map (λ p. p) (run_bench bench headers).packets
-    → after ≡ with_cells bench (run_bench bench headers).cells
+    → AreWide width headers → count ≡ length headers
+    → initial ≡ flat_map (λ (p : List ℤ). p) headers
+    → words ≡ flat_map (λ (p : List ℤ). p) (run_bench bench (rows count width initial)).packets
+    → after ≡ with_cells bench (run_bench bench (rows count width initial)).cells
     → IsEnd program headers words after
-run_end program bench headers none words after begins nothing packets cells = record {
-  packets =
-      packets
-      ∙ ap (λ l. l ++ flat_map (λ p. p) (run_bench bench headers).packets) nothing
-      ∙ ap (λ (b : Held). flat_map (λ p. p) (run_bench b headers).packets) begins;
-  cells = ap (λ (b : Held). b.cells) cells ∙ ap (λ (b : Held). (run_bench b headers).cells) begins;
-}
+run_end program bench headers count width initial words after begins wide e is packets cells =
+    let back : rows count width initial ≡ headers = ap (λ (n : ℕ). rows n width initial) e ∙ ap (rows (length headers) width) is ∙ rows_back width headers wide in
+    record {
+      packets =
+          packets
+          ∙ ap (λ (l : List (List ℤ)). flat_map (λ (p : List ℤ). p) (run_bench bench l).packets) back
+          ∙ ap (λ (b : Held). flat_map (λ (p : List ℤ). p) (run_bench b headers).packets) begins;
+      cells =
+          ap (λ (b : Held). b.cells) cells
+          ∙ ap (λ (l : List (List ℤ)). (run_bench bench l).cells) back
+          ∙ ap (λ (b : Held). (run_bench b headers).cells) begins;
+    }

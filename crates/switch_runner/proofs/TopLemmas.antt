@@ -34,14 +34,14 @@ wide_same width (p ∷ ps) (h ∷ hs) e w = (let f : length p ≡ length h = cc 
 rows_step : (p rest : List ℤ) (n : ℕ) → rows (suc n) (length p) (p ++ rest) ≡ p ∷ rows n (length p) rest
 rows_step p rest n = ap (λ l. l ∷ rows n (length p) (drop (length p) (p ++ rest))) (take-append_seam p rest) ∙ ap (λ l. p ∷ rows n (length p) l) (drop-append_seam p rest)
 
-rows_back : (width : ℕ) (ps : List (List ℤ)) → AreWide width ps → rows (length ps) width (flat_map (λ p. p) ps) ≡ ps
+pub rows_back : (width : ℕ) (ps : List (List ℤ)) → AreWide width ps → rows (length ps) width (flat_map (λ p. p) ps) ≡ ps
 rows_back width [] w = refl
 rows_back width (p ∷ ps) w =
     let rest : List ℤ = flat_map (λ p. p) ps in
     let back : rows (length ps) (length p) rest ≡ ps = subst (λ (k : ℕ). rows (length ps) k rest ≡ ps) (sym w.0) (rows_back width ps w.1) in
     subst (λ (k : ℕ). rows (suc (length ps)) k (p ++ rest) ≡ p ∷ ps) w.0 (rows_step p rest (length ps) ∙ ap (λ l. p ∷ l) back)
 
-flat_length : (width : ℕ) (ps : List (List ℤ)) → AreWide width ps → length (flat_map (λ p. p) ps) ≡ length ps * width
+pub flat_length : (width : ℕ) (ps : List (List ℤ)) → AreWide width ps → length (flat_map (λ p. p) ps) ≡ length ps * width
 flat_length width [] w = omega arith
 flat_length width (p ∷ ps) w = omega (arith, length-append p (flat_map (λ p. p) ps), w.0, flat_length width ps w.1)
 

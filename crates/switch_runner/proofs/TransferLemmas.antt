@@ -1,8 +1,8 @@
 -- What a sink has taken after one more piece.
-use Rattle.std.proofs.Common.{◌≡◌, ℕ, ◌+◌, ◌-◌, min, List, ◌++◌, length, take, drop, Option, Some, None, refl, ap, sym, ◌∙◌, append_assoc, arith}
+use Rattle.std.proofs.Common.{◌≡◌, ℕ, ◌+◌, ◌-◌, ◌^◌, ◌≤◌, min, List, ◌++◌, length, take, drop, Option, Some, None, refl, ap, sym, ◌∙◌, append_assoc, arith}
 use Rattle.std.proofs.Math.Seq.{take-add, take-append-add}
 use Rattle.std.proofs.lemmas.List.{take_rest, take_min, take-append-le}
-use Rattle.switch_runner.specs.Outside.{gained, TookFront}
+use Rattle.switch_runner.specs.Outside.{gained, TookFront, SinkView, Grew, Stopped}
 
 -- two pieces, one after the other, are one
 pub gained-gained : (a b : List ℕ) (old : Option (List ℕ)) → gained b (gained a old) ≡ gained (a ++ b) old
@@ -25,3 +25,18 @@ TookFront-first a a' b old new e taken =
 pub TookFront-second : (a a' b : List ℕ) (old middle new : Option (List ℕ)) → a' ≡ a → middle ≡ gained a' old → TookFront middle new b → TookFront old new (a ++ b)
 TookFront-second a a' b old middle new e first taken =
     (length a + taken.0, taken.1 ∙ ap (gained (take taken.0 b)) (first ∙ ap (λ front. gained front old) e) ∙ gained-gained a (take taken.0 b) old ∙ ap (λ front. gained front old) (sym (take-append-add a b taken.0)))
+
+-- a sink that grew by a front, and then by a front of what was left
+pub grew_more : (bytes : List ℕ) (done n : ℕ) (old middle new : SinkView) → Grew (take done bytes) old middle → Grew (take n (take (length bytes - done) (drop done bytes))) middle new → Grew (take (done + n) bytes) old new
+grew_more bytes done n old middle new first second = record {
+  taken = gained_more bytes done n old.taken middle.taken new.taken first.taken second.taken;
+  later = omega (arith, first.later, second.later);
+}
+
+-- a sink that grew by a front, and then stopped
+pub stopped_more : (bytes : List ℕ) (done : ℕ) (old middle new : SinkView) → Grew (take done bytes) old middle → Stopped (take (length bytes - done) (drop done bytes)) middle new → Stopped bytes old new
+stopped_more bytes done old middle new first second = record {
+  front = (done + second.front.0, gained_more bytes done second.front.0 old.taken middle.taken new.taken first.taken second.front.1);
+  later = omega (arith, first.later, second.later);
+  rose = let h : old.faults ≤ middle.faults = first.later in let k : min (middle.faults + 1) (2 ^ 64 - 1) ≤ new.faults = second.rose in omega arith;
+}

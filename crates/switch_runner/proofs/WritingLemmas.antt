@@ -4,8 +4,11 @@ use Rattle.std.proofs.lemmas.List.{append-nil, append_cancel_left, take-append-d
 use Rattle.std.specs.List.{flat_map}
 use Rattle.std.specs.Prelude.{OnOk, OnErr}
 use Rattle.std.proofs.Math.Seq.{take-append-add, take-append_seam, take-length, take-nil}
-use Rattle.switch_runner.specs.Outside.{Rose, TookFront, gained}
-use Rattle.switch_runner.specs.Writing.{At, at, Wrote, Broke, Puts}
+use Rattle.switch_runner.specs.Outside.{SinkView, Rose, TookFront, gained, Grew, Stopped}
+use Rattle.switch_runner.specs.Writing.{At, at, Wrote, Broke, Puts, Writes}
+use Rattle.switch_runner.specs.declared.status.Status.{Status}
+use Rattle.switch_runner.specs.Causes.{line}
+use Rattle.switch_runner.specs.Laws.{Tells}
 use Rattle.switch_runner.proofs.TransferLemmas.{TookFront-first, TookFront-second}
 
 -- what is gained in two parts is gained at once
@@ -127,20 +130,45 @@ took_flushed text s t new empty w took =
     took_then s.taken t.taken new s.waits t.waits text [] w.whole w.front (subst (λ (l : List ℕ). TookFront t.taken new l) (sym (append-nil t.waits)) took) in
     subst (λ (l : List ℕ). TookFront s.taken new l) (ap (λ l. l ++ (text ++ [])) empty ∙ append-nil text) all
 
--- a text was put where nothing waits, before or after
-pub puts_text : {T E : Type 0} (r : Result T E) (text : List ℕ) (old new : Option (List ℕ)) (before now : ℕ)
-    → OnOk r (new ≡ gained text old) → OnErr r (TookFront old new text) → before ≤ now → OnErr r (Rose before now) → Puts text (at [] old before) (at [] new now) r
-puts_text (Ok x) text old new before now ok err later rose = record { whole = gained-nil new ∙ ok; front = took_all text old new ok; later = later }
-puts_text (Err x) text old new before now ok err later rose = record { front = err; later = later; rose = rose }
+-- a text that was put where nothing waited, and then what waits was written
+pub grew_flushed : (text waits waits' : List ℕ) (old middle new : SinkView) → waits ≡ [] → Wrote text (at waits old) (at waits' middle) → Grew waits' middle new → Grew text old new
+grew_flushed text waits waits' old middle new empty w grew = record {
+  taken = grew.taken ∙ w.whole ∙ ap (λ l. gained (l ++ text) old.taken) empty;
+  later = omega (arith, w.later, grew.later);
+}
+
+pub stopped_flushed : (text waits waits' : List ℕ) (old middle new : SinkView) → waits ≡ [] → Wrote text (at waits old) (at waits' middle) → Stopped waits' middle new → Stopped text old new
+stopped_flushed text waits waits' old middle new empty w stopped = record {
+  front = took_flushed text (at waits old) (at waits' middle) new.taken empty w stopped.front;
+  later = omega (arith, w.later, stopped.later);
+  rose = let h : old.faults ≤ middle.faults = w.later in let k : min (middle.faults + 1) (2 ^ 64 - 1) ≤ new.faults = stopped.rose in omega arith;
+}
+
+-- a write failed while a text was put where nothing waited
+pub stopped_put : (text waits waits' : List ℕ) (old new : SinkView) → waits ≡ [] → Broke text (at waits old) (at waits' new) → Stopped text old new
+stopped_put text waits waits' old new empty b = record {
+  front = subst (λ (l : List ℕ). TookFront old.taken new.taken (l ++ text)) empty b.front;
+  later = b.later;
+  rose = b.rose;
+}
+
+-- a text was written to a sink
+pub writes_text : {T E : Type 0} (r : Result T E) (text : List ℕ) (old new : SinkView) → OnOk r (Grew text old new) → OnErr r (Stopped text old new) → Writes text old new r
+writes_text (Ok x) text old new ok err = record { whole = gained-nil new.taken ∙ ok.taken; front = took_all text old.taken new.taken ok.taken; later = ok.later }
+writes_text (Err x) text old new ok err = record { front = err.front; later = err.later; rose = err.rose }
 
 -- then a front of it was taken, and all of it where no write failed
-pub front_of : {T E : Type 0} (r : Result T E) (text : List ℕ) (old new : Option (List ℕ)) (before now : ℕ) → Puts text (at [] old before) (at [] new now) r → TookFront old new text
-front_of (Ok x) text old new before now h = h.front
-front_of (Err x) text old new before now h = h.front
+pub front_of : {T E : Type 0} (r : Result T E) (text : List ℕ) (old new : SinkView) → Writes text old new r → TookFront old.taken new.taken text
+front_of (Ok x) text old new h = h.front
+front_of (Err x) text old new h = h.front
 
-pub whole_of : {T E : Type 0} (r : Result T E) (text : List ℕ) (old new : Option (List ℕ)) (before now : ℕ) → Puts text (at [] old before) (at [] new now) r → ¬ Rose before now → new ≡ gained text old
-whole_of (Ok x) text old new before now h quiet = sym (gained-nil new) ∙ h.whole
-whole_of (Err x) text old new before now h quiet = absurd (quiet h.rose)
+pub later_of : {T E : Type 0} (r : Result T E) (text : List ℕ) (old new : SinkView) → Writes text old new r → old.faults ≤ new.faults
+later_of (Ok x) text old new h = h.later
+later_of (Err x) text old new h = h.later
+
+pub whole_of : {T E : Type 0} (r : Result T E) (text : List ℕ) (old new : SinkView) → Writes text old new r → ¬ Rose old.faults new.faults → new.taken ≡ gained text old.taken
+whole_of (Ok x) text old new h quiet = sym (gained-nil new.taken) ∙ h.whole
+whole_of (Err x) text old new h quiet = absurd (quiet h.rose)
 
 -- of nothing, nothing is taken
 pub took_nothing : (old new : Option (List ℕ)) → TookFront old new [] → new ≡ old
@@ -149,3 +177,12 @@ took_nothing old new (n, first) = first ∙ ap (λ l. gained l old) (take-nil n)
 -- a text that is put is that of every name it has
 pub puts_same : {T E : Type 0} (r : Result T E) (text line : List ℕ) (s t : At) → line ≡ text → Puts text s t r → Puts line s t r
 puts_same r text line s t e h = subst (λ (l : List ℕ). Puts l s t r) (sym e) h
+
+-- the line of an answer was written
+pub tells : {T E : Type 0} (answer : Status) (r : Result T E) (old new : SinkView) → Writes (line answer) old new r → Tells answer old new
+tells answer r old new h = record {
+  whole = whole_of r (line answer) old new h;
+  front = front_of r (line answer) old new h;
+  later = later_of r (line answer) old new h;
+  silent = λ e. took_nothing old.taken new.taken (subst (λ (s : Status). TookFront old.taken new.taken (line s)) e (front_of r (line answer) old new h));
+}

@@ -1,5 +1,5 @@
--- The causes of each answer of the top call.
-use Rattle.std.specs.Prelude.{◌≡◌, ◌≢◌, ◌⊎◌, ℕ, Bool, true, false, List, [], take, codes, Option, Some, IfSome}
+-- The causes of each answer to a request, and what tells of it.
+use Rattle.std.specs.Prelude.{◌≡◌, ◌≢◌, ◌⊎◌, ℕ, ℤ, Bool, true, false, List, [], take, codes, IfSome}
 use Rattle.capture_io.specs.declared.fault.CaptureFault.{CaptureFault}
 use Rattle.capture_io.specs.declared.fault.CaptureFault.TheVariants as capture
 use Rattle.capture_io.specs.ClassicCapture.{Record, IsCapture}
@@ -14,39 +14,13 @@ use Rattle.switch_runner.specs.declared.status.ProgramFault.{ProgramFault}
 use Rattle.switch_runner.specs.declared.status.ProgramFault.TheVariants as program
 use Rattle.switch_runner.specs.declared.status.Status.{Status}
 use Rattle.switch_runner.specs.declared.status.Status.TheVariants as status
-use Rattle.switch_runner.specs.Outside.{Rose, TookFront, gained}
+use Rattle.switch_runner.specs.declared.command_line.Mode.{Mode}
+use Rattle.switch_runner.specs.declared.command_line.Mode.TheVariants.{One}
+use Rattle.switch_runner.specs.CommandLine.{Request}
+use Rattle.switch_runner.specs.Outside.{StoreView, SinkView, Rose, TookFront, gained}
 use Rattle.switch_runner.specs.HelpText.{help_text}
 use Rattle.switch_runner.specs.RefusalLine.{program_line, refusal_line}
-use Rattle.switch_runner.specs.Report
-
--- what a call saw of the outside: what the store tells of the program and of the capture, the counts of
--- faults of the two names and of the output before and after, and what the output has taken
-pub record Seen : Type 0 where
-  pub text : Option (List ℕ)
-  pub bytes : Option (List ℕ)
-  pub program_before : ℕ
-  pub program_after : ℕ
-  pub capture_before : ℕ
-  pub capture_after : ℕ
-  pub out_before : ℕ
-  pub out_after : ℕ
-  pub old : Option (List ℕ)
-  pub new : Option (List ℕ)
-
--- what a call for these two names saw
-abbrev pub saw : (List ℕ → Option (List ℕ)) → (List ℕ → ℕ) → (List ℕ → ℕ) → ℕ → ℕ → Option (List ℕ) → Option (List ℕ) → List ℕ → List ℕ → Seen
-saw told before after out_before out_after old new program capture = record {
-  text = told program;
-  bytes = told capture;
-  program_before = before program;
-  program_after = after program;
-  capture_before = before capture;
-  capture_after = after capture;
-  out_before = out_before;
-  out_after = out_after;
-  old = old;
-  new = new;
-}
+use Rattle.switch_runner.specs.Report.{report}
 
 -- the text is a program of the grammar, which passes the checks
 pub record IsAccepted (text : List ℕ) (program : Program) : Type 0 where
@@ -85,33 +59,44 @@ IsSomeCapture bytes = (records : List Record) × IsCapture bytes records
 abbrev pub IsNoCapture : CaptureFault → List ℕ → Type 0
 IsNoCapture f bytes = Refuses (take 134217729 bytes) f
 
--- the told text is accepted as a program, the told bytes are a capture, and where both are told this
--- holds of the report of the program's sequential run over the capture's headers
-pub record OfReport (seen : Seen) (P : List ℕ → Type 0) : Type 0 where
-  pub program : IfSome seen.text IsProgram
-  pub capture : IfSome seen.bytes IsSomeCapture
-  pub report : IfSome seen.text (λ text. IfSome seen.bytes (λ bytes.
-      (p : Program) × (records : List Record) × IsAccepted text p × IsCapture bytes records × P (Report.report p (headers p.packet.fields records))))
+-- what is told of the two files can be run: a text that is accepted as a program, and bytes that are a capture
+pub record IsRunnable (r : Request) (store : StoreView) : Type 0 where
+  pub program : IfSome (store.told r.program) IsProgram
+  pub capture : IfSome (store.told r.capture) IsSomeCapture
 
--- the output is as it was
-abbrev pub IsUnwritten : Seen → Type 0
-IsUnwritten seen = seen.new ≡ seen.old
+-- the report of a run over these headers
+abbrev pub report_of : Mode → Program → List (List ℤ) → List ℕ
+report_of One p headers = report p headers
 
--- why taken words get this answer
-abbrev pub Because : Status → Seen → Type 0
-Because status.Done seen = OfReport seen (λ text. seen.new ≡ gained text seen.old)
-Because status.Help seen = ⊥
-Because status.Words seen = ⊥
-Because (status.Program f) seen = (lacks_memory f ≡ false) × IfSome seen.text (IsNoProgram f) × IsUnwritten seen
-Because (status.Capture f) seen = (f ≢ capture.NoMemory) × IfSome seen.text IsProgram × IfSome seen.bytes (IsNoCapture f) × IsUnwritten seen
-Because status.ReadFault seen =
-    (Rose seen.program_before seen.program_after ⊎ (IfSome seen.text IsProgram × Rose seen.capture_before seen.capture_after)) × IsUnwritten seen
-Because status.WriteFault seen = Rose seen.out_before seen.out_after × OfReport seen (TookFront seen.old seen.new)
-Because status.NoMemory seen = IsUnwritten seen
+-- where both files are told, this holds of the report of the program's run over the capture's headers
+abbrev pub OfReport : Request → StoreView → (List ℕ → Type 0) → Type 0
+OfReport r store P = IfSome (store.told r.program) (λ text. IfSome (store.told r.capture) (λ bytes.
+    (p : Program) × (records : List Record) × IsAccepted text p × IsCapture bytes records × P (report_of r.mode p (headers p.packet.fields records))))
+
+-- the count of a name rose
+abbrev pub RoseFor : List ℕ → StoreView → StoreView → Type 0
+RoseFor name old new = Rose (old.faults name) (new.faults name)
+
+-- why a request gets this answer, of the store before and after
+abbrev pub Cause : Status → Request → StoreView → StoreView → Type 0
+Cause status.Done r old new = IsRunnable r old
+Cause status.Help r old new = ⊥
+Cause status.Words r old new = ⊥
+Cause (status.Program f) r old new = (lacks_memory f ≡ false) × IfSome (old.told r.program) (IsNoProgram f)
+Cause (status.Capture f) r old new = (f ≢ capture.NoMemory) × IfSome (old.told r.program) IsProgram × IfSome (old.told r.capture) (IsNoCapture f)
+Cause status.ReadFault r old new = RoseFor r.program old new ⊎ (IfSome (old.told r.program) IsProgram × RoseFor r.capture old new)
+Cause status.WriteFault r old new = IsRunnable r old
+Cause status.NoMemory r old new = Unit {0}
+
+-- what the output gains by this answer to a request: the report, a front of it where a write failed, or nothing
+abbrev pub Gained : Status → Request → StoreView → SinkView → SinkView → Type 0
+Gained status.Done r store old new = OfReport r store (λ text. new.taken ≡ gained text old.taken)
+Gained status.WriteFault r store old new = Rose old.faults new.faults × OfReport r store (TookFront old.taken new.taken)
+Gained answer r store old new = new ≡ old
 
 -- no read of the program or of the capture failed
-abbrev pub IsReadThrough : Seen → Type 0
-IsReadThrough seen = (¬ Rose seen.program_before seen.program_after) × (¬ Rose seen.capture_before seen.capture_after)
+abbrev pub IsReadThrough : Request → StoreView → StoreView → Type 0
+IsReadThrough r old new = (¬ RoseFor r.program old new) × (¬ RoseFor r.capture old new)
 
 -- the answer is this one, unless memory ran out
 abbrev pub IsOrNoMemory : Status → Status → Type 0
@@ -120,18 +105,6 @@ IsOrNoMemory answer s = (answer ≡ s) ⊎ (answer ≡ status.NoMemory)
 -- the answer comes only where this holds, and then no other comes, unless memory ran out
 abbrev pub ComesWhere : Type 0 → Status → Status → Type 0
 ComesWhere P answer s = (answer ≡ s → P) × (P → IsOrNoMemory answer s)
-
--- a told text that isn't accepted is always answered by what it isn't accepted for
-abbrev pub ProgramAlways : Status → Seen → Type 0
-ProgramAlways answer seen = (text : List ℕ) (f : ProgramFault) → seen.text ≡ Some text → IsNoProgram f text → IsReadThrough seen → IsOrNoMemory answer (status.Program f)
-
--- told bytes that are refused as a capture, under a told program, are always answered by their first refusal
-abbrev pub CaptureAlways : Status → Seen → Type 0
-CaptureAlways answer seen = (text bytes : List ℕ) (f : CaptureFault) → seen.text ≡ Some text → seen.bytes ≡ Some bytes → IsProgram text → IsNoCapture f bytes → IsReadThrough seen → IsOrNoMemory answer (status.Capture f)
-
--- a told program over a told capture, with no fault, is run to its end
-abbrev pub IsComplete : Status → Seen → Type 0
-IsComplete answer seen = (text bytes : List ℕ) → seen.text ≡ Some text → seen.bytes ≡ Some bytes → IsProgram text → IsSomeCapture bytes → IsReadThrough seen → ¬ Rose seen.out_before seen.out_after → IsOrNoMemory answer status.Done
 
 -- the answer is about the program
 abbrev pub IsAboutProgram : Status → Type 0

@@ -15,6 +15,7 @@ pub mod Report
 pub mod HelpText
 pub mod RefusalLine
 pub mod Causes
+pub mod Laws
 pub mod Transfer
 pub mod Memory
 pub mod Top

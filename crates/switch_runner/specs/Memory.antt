@@ -1,7 +1,8 @@
 -- Files and output in memory.
-use Rattle.std.specs.Prelude.{◌+◌, ◌-◌, ◌^◌, ◌==◌, ℕ, min, List, [], ◌++◌, length, take, Bool, Result, Ok, Err, is_some, if◌then◌else◌, slice_index_or}
+use Rattle.std.specs.Prelude.{◌+◌, ◌-◌, ◌^◌, ◌==◌, ℕ, min, List, [], ◌++◌, length, take, Bool, Result, Ok, Err, Some, None, is_some, if◌then◌else◌, slice_index_or}
 use Rattle.std.specs.List.{position, position_or_len, list_any}
 use Rattle.std.specs.Str.{bytes_eq}
+use Rattle.switch_runner.specs.Outside.{StoreView, SinkView}
 use Rattle.switch_runner.specs.declared.outside.StoreFault.{StoreFault}
 use Rattle.switch_runner.specs.declared.outside.StoreFault.TheVariants.{Failed}
 
@@ -23,6 +24,26 @@ absent = record { name = []; bytes = []; faults = 0 }
 abbrev pub file_of : List NamedFile → List ℕ → NamedFile
 file_of files name = slice_index_or files (position_or_len (named name) files) absent
 
+-- how many reads of a name have failed
+abbrev pub faults_of : List NamedFile → List ℕ → ℕ
+faults_of files name = (file_of files name).faults
+
+-- what is seen of files in memory
+abbrev pub files_seen : List NamedFile → StoreView
+files_seen files = record { told = λ name. Some (file_of files name).bytes; faults = faults_of files }
+
+-- what is seen of files in memory whose reads never fail
+abbrev pub sure_seen : List NamedFile → StoreView
+sure_seen files = record { told = λ name. Some (file_of files name).bytes; faults = λ name. 0 }
+
+-- what is seen of files of which the counts alone are kept
+abbrev pub counts_seen : List NamedFile → StoreView
+counts_seen files = record { told = λ name. None; faults = faults_of files }
+
+-- what is seen of a sink that tells nothing of what it took
+abbrev pub untold_seen : ℕ → SinkView
+untold_seen faults = record { taken = None; faults = faults }
+
 -- what a store of files in memory holds: the files, the most bytes that one read gives, the numbers of the
 -- reads that fail, and how many reads of listed names there were
 pub record Shelf : Type 0 where
@@ -39,6 +60,10 @@ pub record Basin : Type 0 where
   pub fails : List ℕ
   pub writes : ℕ
   pub faults : ℕ
+
+-- what is seen of a sink in memory
+abbrev pub basin_seen : Basin → SinkView
+basin_seen basin = record { taken = Some basin.bytes; faults = basin.faults }
 
 -- the number of the next read or write; it stands still at its type's end
 abbrev pub next : ℕ → ℕ

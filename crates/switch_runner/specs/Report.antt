@@ -1,6 +1,7 @@
 -- The text of a report.
 use Rattle.std.specs.Prelude.{◌≡◌, ℕ, ◌+◌, ℤ, if◌then◌else◌, List, [], ◌∷◌, ◌++◌, map, length, codes, decimal}
 use Rattle.std.specs.Fmt.{signed_decimal}
+use Rattle.std.specs.List.{flat_map}
 use Rattle.std.specs.Ordering.{int_eq}
 use Rattle.domino_tree.specs.declared.program.Program.{Program}
 use Rattle.domino_tree.specs.Sequential.{one}
@@ -23,10 +24,10 @@ fields_text (l ∷ ls) (z ∷ zs) = (l ++ signed_decimal z) ++ fields_text ls zs
 abbrev pub packet_line : List (List ℕ) → ℕ → List ℤ → List ℕ
 packet_line labels t packet = codes "pkt " ++ (decimal t ++ (fields_text labels packet ++ (10 ∷ [])))
 
--- the packets from arrival t on
-abbrev pub packet_lines : List (List ℕ) → ℕ → List (List ℤ) → List ℕ
+-- the lines of the packets from arrival t on
+abbrev pub packet_lines : List (List ℕ) → ℕ → List (List ℤ) → List (List ℕ)
 packet_lines labels t [] = []
-packet_lines labels t (p ∷ ps) = packet_line labels t p ++ packet_lines labels (t + 1) ps
+packet_lines labels t (p ∷ ps) = packet_line labels t p ∷ packet_lines labels (t + 1) ps
 
 -- ---- registers
 
@@ -38,17 +39,17 @@ cell_name info i = if info.scalar then info.name else info.name ++ (91 ∷ (deci
 abbrev pub register_line : List ℕ → ℤ → List ℕ
 register_line name z = codes "reg " ++ (name ++ (61 ∷ (signed_decimal z ++ (10 ∷ []))))
 
--- the line of a cell that differs from its start value
-abbrev pub cell_line : ArrayInfo → ℕ → ℤ → List ℕ
-cell_line info i z = if int_eq z info.start then [] else register_line (cell_name info i) z
+-- the line of a cell that differs from its start value, and no line of another
+abbrev pub cell_line : ArrayInfo → ℕ → ℤ → List (List ℕ)
+cell_line info i z = if int_eq z info.start then [] else register_line (cell_name info i) z ∷ []
 
--- the cells from cell i on
-abbrev pub cell_lines : ArrayInfo → ℕ → List ℤ → List ℕ
+-- the lines of the cells from cell i on
+abbrev pub cell_lines : ArrayInfo → ℕ → List ℤ → List (List ℕ)
 cell_lines info i [] = []
 cell_lines info i (z ∷ zs) = cell_line info i z ++ cell_lines info (i + 1) zs
 
--- the arrays in order of declaration
-abbrev pub register_lines : List ArrayInfo → List (List ℤ) → List ℕ
+-- the lines of the arrays in order of declaration
+abbrev pub register_lines : List ArrayInfo → List (List ℤ) → List (List ℕ)
 register_lines [] cells = []
 register_lines (i ∷ infos) [] = []
 register_lines (i ∷ infos) (c ∷ cells) = cell_lines i 0 c ++ register_lines infos cells
@@ -63,10 +64,22 @@ HasCells infos cells = map (λ (c : List ℤ). length c) cells ≡ map (λ (i : 
 abbrev pub done_line : ℕ → List ℕ
 done_line n = codes "done " ++ (decimal n ++ (10 ∷ []))
 
--- the packets, the registers, and the number of arrivals
-abbrev pub run_text : List (List ℕ) → List ArrayInfo → List (List ℤ) → List (List ℤ) → ℕ → List ℕ
-run_text labels infos packets cells n = packet_lines labels 0 packets ++ (register_lines infos cells ++ done_line n)
+-- the lines of the packets, of the registers, and the last one
+abbrev pub run_lines : List (List ℕ) → List ArrayInfo → List (List ℤ) → List (List ℤ) → ℕ → List (List ℕ)
+run_lines labels infos packets cells n = packet_lines labels 0 packets ++ (register_lines infos cells ++ done_line n ∷ [])
 
--- the report of the sequential run over these headers
+-- lines one after another
+abbrev pub text_of : List (List ℕ) → List ℕ
+text_of = flat_map (λ line. line)
+
+-- the text of a run
+abbrev pub run_text : List (List ℕ) → List ArrayInfo → List (List ℤ) → List (List ℤ) → ℕ → List ℕ
+run_text labels infos packets cells n = text_of (run_lines labels infos packets cells n)
+
+-- the lines of the report of the sequential run over these headers
+abbrev pub report_lines : Program → List (List ℤ) → List (List ℕ)
+report_lines p headers = run_lines (map label p.packet.fields) (infos_of p) (one p headers).packets (one p headers).cells (length headers)
+
+-- the report, which is its lines one after another
 abbrev pub report : Program → List (List ℤ) → List ℕ
-report p headers = run_text (map label p.packet.fields) (infos_of p) (one p headers).packets (one p headers).cells (length headers)
+report p headers = text_of (report_lines p headers)

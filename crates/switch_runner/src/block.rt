@@ -1,8 +1,7 @@
 //! Bytes that are collected before they are written.
 ghost use Rattle.std.specs.Prelude.{◌≡◌, ◌≤◌, ◌<◌, ◌+◌, ◌++◌, ℕ, List, [], length, IfOk, OnOk, OnErr, vec_len, vec_capacity};
 ghost use Rattle.std.specs.Bool.{OnTrue, OnFalse};
-ghost use Rattle.switch_runner.specs.Outside.{TookFront, gained};
-ghost use Rattle.switch_runner.specs.Faults.{WriteCause};
+ghost use Rattle.switch_runner.specs.Outside.{Grew, Stopped};
 ghost use Rattle.switch_runner.specs.Writing.{Puts, at};
 
 use crate::outside::{Failed, Sink};
@@ -41,8 +40,7 @@ impl Block {
     /// larger than the block is written by itself. Takes no memory.
     #[inline]
     pub(crate) fn put<K: Sink>(&mut self, out: &mut K, piece: &[u8]) -> Result<(), Failed>
-        ensures { Puts piece.now (at self.old (K.taken out.old) (K.faults out.old))
-            (at self.new (K.taken out.new) (K.faults out.new)) result }
+        ensures { Puts piece.now (at self.old (K.seen out.old)) (at self.new (K.seen out.new)) result }
     {
         if self.add(piece) {
             return Ok(());
@@ -54,8 +52,7 @@ impl Block {
     #[cold]
     #[inline(never)]
     fn put_past<K: Sink>(&mut self, out: &mut K, piece: &[u8]) -> Result<(), Failed>
-        ensures { Puts piece.now (at self.old (K.taken out.old) (K.faults out.old))
-            (at self.new (K.taken out.new) (K.faults out.new)) result }
+        ensures { Puts piece.now (at self.old (K.seen out.old)) (at self.new (K.seen out.new)) result }
     {
         match self.flush(out) {
             Ok(()) => {}
@@ -72,11 +69,10 @@ impl Block {
 
     /// Writes what waits.
     pub(crate) fn flush<K: Sink>(&mut self, out: &mut K) -> Result<(), Failed>
-        ensures ok { OnOk result (K.taken out.new ≡ gained self.old (K.taken out.old)) }
+        ensures ok { OnOk result (Grew self.old (K.seen out.old) (K.seen out.new)) }
         ensures empty { OnOk result (self.new ≡ []) }
-        ensures err { OnErr result (TookFront (K.taken out.old) (K.taken out.new) self.old) }
+        ensures err { OnErr result (Stopped self.old (K.seen out.old) (K.seen out.new)) }
         ensures left { OnErr result (self.new ≡ self.old) }
-        ensures cause { WriteCause (K.faults out.old) (K.faults out.new) result }
     {
         write_all(out, self.bytes.as_slice())?;
         self.bytes.clear();

@@ -8,20 +8,29 @@ use clap::error::ErrorKind;
 use clap::{Arg, ArgMatches, Command, Error};
 use std::alloc::{AllocError, Global};
 
-/// The files that the words ask for.
+/// How a program is run.
 #[derive(Clone, Copy)]
-pub(crate) struct Files<'a> {
+pub(crate) enum Mode {
+    /// One packet after another, in order of arrival, on one thread.
+    One,
+}
+
+/// What the words ask for: how to run, and the names of the program and of the capture.
+#[derive(Clone, Copy)]
+pub(crate) struct Request<'a> {
+    pub(crate) mode: Mode,
     pub(crate) program: &'a str,
     pub(crate) capture: &'a str,
 }
 
-/// The files that the words ask for, or the answer Help, Words or NoMemory.
-pub(crate) fn asked<'a>(alloc: Global, words: &'a [String]) -> Result<Files<'a>, Status>
-    ensures taken { IfOk result (λ f. command.asked (map string_bytes words.entry.now) ≡ Some (f.program.now, f.capture.now)) }
+/// What the words ask for, or the answer Help, Words or NoMemory.
+pub(crate) fn asked<'a>(alloc: Global, words: &'a [String]) -> Result<Request<'a>, Status>
+    ensures taken { IfOk result (λ r. command.asked (map string_bytes words.entry.now)
+        ≡ Some (command.request_with r.mode r.program.now r.capture.now)) }
     ensures refused { IfErr result (command.NotTaken (map string_bytes words.entry.now)) }
 {
     match matched(alloc, words) {
-        Ok(matches) => files_of(&matches),
+        Ok(matches) => request_of(&matches),
         Err(error) => Err(refusal(error.kind())),
     }
 }
@@ -65,13 +74,14 @@ fn refusal(kind: ErrorKind) -> Status
     }
 }
 
-// The files of a run, or Words where the arguments are those of none.
-fn files_of<'a>(matches: &ArgMatches<'a>) -> Result<Files<'a>, Status>
-    ensures taken { IfOk result (λ f. command.files_of
+// The request of the arguments, or Words where they are those of none.
+fn request_of<'a>(matches: &ArgMatches<'a>) -> Result<Request<'a>, Status>
+    ensures taken { IfOk result (λ r. command.request_of
         (first_value (found_of matches.now) (codes "mode"))
         (first_value (found_of matches.now) (codes "program"))
-        (first_value (found_of matches.now) (codes "capture")) ≡ Some (f.program.now, f.capture.now)) }
-    ensures refused { IfErr result (λ s. (s ≡ Status.Words) × (command.files_of
+        (first_value (found_of matches.now) (codes "capture"))
+        ≡ Some (command.request_with r.mode r.program.now r.capture.now)) }
+    ensures refused { IfErr result (λ s. (s ≡ Status.Words) × (command.request_of
         (first_value (found_of matches.now) (codes "mode"))
         (first_value (found_of matches.now) (codes "program"))
         (first_value (found_of matches.now) (codes "capture")) ≡ None)) }
@@ -83,18 +93,28 @@ fn files_of<'a>(matches: &ArgMatches<'a>) -> Result<Files<'a>, Status>
     ) else {
         return Err(Status::Words);
     };
-    if is_run(mode, capture) {
-        Ok(Files { program, capture })
-    } else {
-        Err(Status::Words)
+    match mode_of(mode) {
+        Some(mode) if is_file(capture) => Ok(Request {
+            mode,
+            program,
+            capture,
+        }),
+        _ => Err(Status::Words),
     }
 }
 
-// Whether there is such a mode, and a capture of this name can be read.
-fn is_run(mode: &str, capture: &str) -> bool
-    ensures { result ≡ command.is_run mode.now capture.now }
+// The mode of this name.
+fn mode_of(name: &str) -> Option<Mode>
+    ensures { result ≡ command.mode_of name.now }
 {
-    mode == "one" && !capture.as_bytes().starts_with(b"gen:")
+    if name == "one" { Some(Mode::One) } else { None }
+}
+
+// Whether the capture is the name of a file, and not one to be made.
+fn is_file(capture: &str) -> bool
+    ensures { result ≡ command.is_file capture.now }
+{
+    !capture.as_bytes().starts_with(b"gen:")
 }
 
 #[cfg(test)]
@@ -136,9 +156,9 @@ mod tests {
         ] {
             let words = words_of(alloc, line)?;
             match asked(alloc, &words) {
-                Ok(files) => {
-                    assert_eq!(rt; files.program, program, "the program of '{line}'");
-                    assert_eq!(rt; files.capture, capture, "the capture of '{line}'");
+                Ok(request) => {
+                    assert_eq!(rt; request.program, program, "the program of '{line}'");
+                    assert_eq!(rt; request.capture, capture, "the capture of '{line}'");
                 }
                 Err(status) => assert_eq!(rt; status.code(), 0, "'{line}'"),
             }

@@ -1,8 +1,10 @@
 //! The real outside: files by their names, and the two standard streams. Both are proved against their
 //! traits, and tell nothing of what they read or wrote.
-ghost use Rattle.std.specs.Prelude.{◌≡◌, ◌≤◌, ℕ, List, length, IfOk, Some, None};
+ghost use Rattle.std.specs.Prelude.{◌≡◌, ◌<◌, ◌≤◌, ℕ, List, length, take, IfOk, OnOk, OnErr, Some, is_some, true};
 ghost use Rattle.std.specs.List.{position};
-ghost use Rattle.switch_runner.specs.Memory.{named, file_of};
+ghost use Rattle.switch_runner.specs.Faults.{Reads};
+ghost use Rattle.switch_runner.specs.Outside.{Grew, Stopped};
+ghost use Rattle.switch_runner.specs.Memory.{named, faults_of, counts_seen, untold_seen};
 
 use crate::memory::{NamedBytes, place_of};
 use crate::outside::{Failed, Sink, Store, StoreFault};
@@ -32,7 +34,7 @@ pub struct FileStore<R: Files> {
 impl<R: Files + AllocGlobal> FileStore<R> {
     /// A store of the files that `rt` opens.
     pub fn new(rt: R) -> FileStore<R>
-        ensures { (name : List ℕ) → ⟦<FileStore<R> as Store>⟧.faults result name ≡ 0 }
+        ensures { (name : List ℕ) → (⟦<FileStore<R> as Store>⟧.seen result).faults name ≡ 0 }
     {
         let names = Vec::new(rt.alloc());
         FileStore {
@@ -44,11 +46,18 @@ impl<R: Files + AllocGlobal> FileStore<R> {
 }
 
 impl<R: Files + AllocGlobal> Store for FileStore<R> {
-    ghost told = { λ _ _. None };
+    ghost seen = { λ store. counts_seen store.names.items };
 
-    ghost faults = { λ store name. (file_of store.names.items name).faults };
-
-    fn read_at(&mut self, name: &str, at: u64, into: &mut [u8]) -> Result<usize, StoreFault> {
+    // A count rises only where the read of its name fails.
+    fn read_at(&mut self, name: &str, at: u64, into: &mut [u8]) -> Result<usize, StoreFault>
+        requires { at ≤ 134217729 }
+        ensures within { IfOk result (λ n. n ≤ length into.new) }
+        ensures reads { Reads name.now (counts_seen self.old.names.items)
+            (counts_seen self.new.names.items) result }
+        ensures quiet { OnOk result
+            (faults_of self.new.names.items name.now ≡ faults_of self.old.names.items name.now) }
+        ensures listed { OnOk result (is_some (position (named name.now) self.new.names.items) ≡ true) }
+    {
         let place = match listed(self.rt.alloc(), &mut self.names, name) {
             Ok(place) => place,
             Err(AllocError) => return Err(StoreFault::NoMemory),
@@ -68,7 +77,7 @@ impl<R: Files + AllocGlobal> Store for FileStore<R> {
 fn listed(alloc: Global, names: &mut Vec<NamedBytes>, name: &str) -> Result<usize, AllocError>
     ensures place { IfOk result (λ i. position (named name.now) names.new.items ≡ Some i) }
     ensures counts { (other : List ℕ)
-        → (file_of names.new.items other).faults ≡ (file_of names.old.items other).faults }
+        → faults_of names.new.items other ≡ faults_of names.old.items other }
 {
     match place_of(names, name) {
         Some(place) => Ok(place),
@@ -127,7 +136,7 @@ pub struct OutSink {
 impl OutSink {
     /// Standard output.
     pub fn output(to: Stdout) -> OutSink
-        ensures { ⟦<OutSink as Sink>⟧.faults result ≡ 0 }
+        ensures { (⟦<OutSink as Sink>⟧.seen result).faults ≡ 0 }
     {
         OutSink {
             stream: Stream::Output(to),
@@ -137,7 +146,7 @@ impl OutSink {
 
     /// Standard error.
     pub fn errors(to: Stderr) -> OutSink
-        ensures { ⟦<OutSink as Sink>⟧.faults result ≡ 0 }
+        ensures { (⟦<OutSink as Sink>⟧.seen result).faults ≡ 0 }
     {
         OutSink {
             stream: Stream::Errors(to),
@@ -147,11 +156,18 @@ impl OutSink {
 }
 
 impl Sink for OutSink {
-    ghost taken = { λ _. None };
+    ghost seen = { λ sink. untold_seen sink.faults };
 
-    ghost faults = { λ sink. sink.faults };
-
-    fn write(&mut self, piece: &[u8]) -> Result<usize, Failed> {
+    // The count rises only where the write fails.
+    fn write(&mut self, piece: &[u8]) -> Result<usize, Failed>
+        ensures within { IfOk result (λ n. n ≤ length piece.now) }
+        ensures some { IfOk result (λ n. 0 < length piece.now → 0 < n) }
+        ensures ok { IfOk result
+            (λ n. Grew (take n piece.now) (untold_seen self.old.faults) (untold_seen self.new.faults)) }
+        ensures err { OnErr result
+            (Stopped piece.now (untold_seen self.old.faults) (untold_seen self.new.faults)) }
+        ensures quiet { OnOk result (self.new.faults ≡ self.old.faults) }
+    {
         let written = match self.stream {
             Stream::Output(to) => to.write_some(piece),
             Stream::Errors(to) => to.write_some(piece),

@@ -1,10 +1,10 @@
 //! What stands on standard error when a call ends.
-ghost use Rattle.std.specs.Prelude.{◌≡◌, ◌<◌, ◌/◌, ◌%◌, [], decimal};
+ghost use Rattle.std.specs.Prelude.{◌≡◌, ◌<◌, ◌/◌, ◌%◌, decimal};
 ghost use Rattle.std.specs.Fmt.{signed_decimal};
 ghost use Rattle.std.specs.List.{flat_map};
 ghost use Rattle.switch_runner.specs.Causes.{line};
 ghost use Rattle.switch_runner.specs.RefusalLine.{hex_digit, hex_word, with_one, with_two, with_name, with_pair, what_word, text_line, check_line, program_line, refusal_line};
-ghost use Rattle.switch_runner.specs.Writing.{Puts, at};
+ghost use Rattle.switch_runner.specs.Writing.{Writes};
 
 use crate::help::help_text;
 use crate::outside::{Failed, Sink};
@@ -18,15 +18,15 @@ use mp5_words::Name;
 
 // Writes a text.
 fn write_text<K: Sink>(err: &mut K, text: &[u8]) -> Result<(), Failed>
-    ensures { Puts text.now (at [] (K.taken err.old) (K.faults err.old)) (at [] (K.taken err.new) (K.faults err.new)) result }
+    ensures { Writes text.now (K.seen err.old) (K.seen err.new) result }
 {
     write_all(err, text)
 }
 
 // Writes pieces one after another.
 fn write_pieces<K: Sink>(err: &mut K, pieces: &[&[u8]]) -> Result<(), Failed>
-    ensures { Puts (flat_map (λ piece. piece.now) pieces.now)
-        (at [] (K.taken err.old) (K.faults err.old)) (at [] (K.taken err.new) (K.faults err.new)) result }
+    ensures { Writes (flat_map (λ piece. piece.now) pieces.now)
+        (K.seen err.old) (K.seen err.new) result }
 {
     for piece in pieces {
         match write_text(err, piece) {
@@ -39,7 +39,7 @@ fn write_pieces<K: Sink>(err: &mut K, pieces: &[&[u8]]) -> Result<(), Failed>
 
 // Writes a line of a text and a value.
 fn write_one<K: Sink>(err: &mut K, text: &[u8], value: u64) -> Result<(), Failed>
-    ensures { Puts (with_one text.now value) (at [] (K.taken err.old) (K.faults err.old)) (at [] (K.taken err.new) (K.faults err.new)) result }
+    ensures { Writes (with_one text.now value) (K.seen err.old) (K.seen err.new) result }
 {
     let mut digits = Buffer::new();
     write_pieces(err, &[text, digits.format(value).as_bytes(), b"\n"])
@@ -47,7 +47,7 @@ fn write_one<K: Sink>(err: &mut K, text: &[u8], value: u64) -> Result<(), Failed
 
 // Writes a line of a text and two values.
 fn write_two<K: Sink>(err: &mut K, text: &[u8], first: u32, second: u32) -> Result<(), Failed>
-    ensures { Puts (with_two text.now first second) (at [] (K.taken err.old) (K.faults err.old)) (at [] (K.taken err.new) (K.faults err.new)) result }
+    ensures { Writes (with_two text.now first second) (K.seen err.old) (K.seen err.new) result }
 {
     let mut before = Buffer::new();
     let mut after = Buffer::new();
@@ -94,7 +94,7 @@ fn hex_word(word: u32) -> [u8; 8]
 
 // Writes the line of a text that isn't read.
 fn write_text_refusal<K: Sink>(err: &mut K, fault: &TextFault) -> Result<(), Failed>
-    ensures { Puts (text_line fault.now) (at [] (K.taken err.old) (K.faults err.old)) (at [] (K.taken err.new) (K.faults err.new)) result }
+    ensures { Writes (text_line fault.now) (K.seen err.old) (K.seen err.new) result }
 {
     match fault {
         TextFault::TooLong(n) => write_one(err, b"mp5: program 1 ", *n),
@@ -107,21 +107,21 @@ fn write_text_refusal<K: Sink>(err: &mut K, fault: &TextFault) -> Result<(), Fai
 
 // Writes a line of a text and a name.
 fn write_name<K: Sink>(err: &mut K, text: &[u8], name: &Name) -> Result<(), Failed>
-    ensures { Puts (with_name text.now name.now) (at [] (K.taken err.old) (K.faults err.old)) (at [] (K.taken err.new) (K.faults err.new)) result }
+    ensures { Writes (with_name text.now name.now) (K.seen err.old) (K.seen err.new) result }
 {
     write_pieces(err, &[text, name.bytes(), b"\n"])
 }
 
 // Writes a line of a text, and a word and digits with a space between them.
 fn write_pair<K: Sink>(err: &mut K, text: &[u8], word: &[u8], digits: &[u8]) -> Result<(), Failed>
-    ensures { Puts (with_pair text.now word.now digits.now) (at [] (K.taken err.old) (K.faults err.old)) (at [] (K.taken err.new) (K.faults err.new)) result }
+    ensures { Writes (with_pair text.now word.now digits.now) (K.seen err.old) (K.seen err.new) result }
 {
     write_pieces(err, &[text, word, b" ", digits, b"\n"])
 }
 
 // Writes the line of a length that is refused.
 fn write_length<K: Sink>(err: &mut K, text: &[u8], name: &Name, length: i32) -> Result<(), Failed>
-    ensures { Puts (with_pair text.now name.now (signed_decimal length)) (at [] (K.taken err.old) (K.faults err.old)) (at [] (K.taken err.new) (K.faults err.new)) result }
+    ensures { Writes (with_pair text.now name.now (signed_decimal length)) (K.seen err.old) (K.seen err.new) result }
 {
     let mut digits = Buffer::new();
     write_pair(err, text, name.bytes(), digits.format(length).as_bytes())
@@ -141,7 +141,7 @@ fn what_word(what: What) -> &'static [u8]
 
 // Writes the line of a count that is past its limit.
 fn write_count<K: Sink>(err: &mut K, text: &[u8], what: What, n: u64) -> Result<(), Failed>
-    ensures { Puts (with_pair text.now (what_word what) (decimal n)) (at [] (K.taken err.old) (K.faults err.old)) (at [] (K.taken err.new) (K.faults err.new)) result }
+    ensures { Writes (with_pair text.now (what_word what) (decimal n)) (K.seen err.old) (K.seen err.new) result }
 {
     let mut digits = Buffer::new();
     write_pair(err, text, what_word(what), digits.format(n).as_bytes())
@@ -149,7 +149,7 @@ fn write_count<K: Sink>(err: &mut K, text: &[u8], what: What, n: u64) -> Result<
 
 // Writes the line of a program that a check refuses.
 fn write_check_refusal<K: Sink>(err: &mut K, fault: &CheckFault) -> Result<(), Failed>
-    ensures { Puts (check_line fault.now) (at [] (K.taken err.old) (K.faults err.old)) (at [] (K.taken err.new) (K.faults err.new)) result }
+    ensures { Writes (check_line fault.now) (K.seen err.old) (K.seen err.new) result }
 {
     match fault {
         CheckFault::Twice(name) => write_name(err, b"mp5: program 5 ", name),
@@ -168,7 +168,7 @@ fn write_check_refusal<K: Sink>(err: &mut K, fault: &CheckFault) -> Result<(), F
 
 // Writes the line of a refused program.
 fn write_program_refusal<K: Sink>(err: &mut K, fault: &ProgramFault) -> Result<(), Failed>
-    ensures { Puts (program_line fault.now) (at [] (K.taken err.old) (K.faults err.old)) (at [] (K.taken err.new) (K.faults err.new)) result }
+    ensures { Writes (program_line fault.now) (K.seen err.old) (K.seen err.new) result }
 {
     match fault {
         ProgramFault::Text(fault) => write_text_refusal(err, fault),
@@ -179,7 +179,7 @@ fn write_program_refusal<K: Sink>(err: &mut K, fault: &ProgramFault) -> Result<(
 
 // Writes the line of a refused capture.
 fn write_refusal<K: Sink>(err: &mut K, fault: &CaptureFault) -> Result<(), Failed>
-    ensures { Puts (refusal_line fault.now) (at [] (K.taken err.old) (K.faults err.old)) (at [] (K.taken err.new) (K.faults err.new)) result }
+    ensures { Writes (refusal_line fault.now) (K.seen err.old) (K.seen err.new) result }
 {
     match fault {
         CaptureFault::TooLong(n) => write_one(err, b"mp5: capture 1 ", *n),
@@ -207,7 +207,7 @@ fn write_refusal<K: Sink>(err: &mut K, fault: &CaptureFault) -> Result<(), Faile
 /// Writes the line that tells of a status, the text of the help for Help, and nothing for Done. Takes no
 /// memory.
 pub(crate) fn write_line<K: Sink>(err: &mut K, status: &Status) -> Result<(), Failed>
-    ensures { Puts (line status.now) (at [] (K.taken err.old) (K.faults err.old)) (at [] (K.taken err.new) (K.faults err.new)) result }
+    ensures { Writes (line status.now) (K.seen err.old) (K.seen err.new) result }
 {
     match status {
         Status::Done => write_text(err, b""),

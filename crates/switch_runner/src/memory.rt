@@ -1,9 +1,9 @@
 //! Stores and sinks in memory, for tests and trials.
-ghost use Rattle.std.specs.Prelude.{◌≡◌, ◌≢◌, ◌≤◌, ◌<◌, ◌+◌, ◌-◌, ◌^◌, ◌==◌, true, ℕ, List, length, take, drop, min, Some, None, Ok, IfOk, OnOk, OnErr, IsErr};
+ghost use Rattle.std.specs.Prelude.{◌≡◌, ◌≤◌, ◌<◌, ◌+◌, ◌-◌, ◌^◌, ◌==◌, true, ℕ, List, length, take, drop, min, Ok, IfOk, OnOk, OnErr, IsErr};
 ghost use Rattle.std.specs.List.{position, list_any};
-ghost use Rattle.switch_runner.specs.Outside.{ReadsPiece};
-ghost use Rattle.switch_runner.specs.Faults.{ReadCause, WriteCause};
-ghost use Rattle.switch_runner.specs.Memory.{NamedFile, named, file_of, Shelf, Basin, next, answer_of, reads_after, poured, refused};
+ghost use Rattle.switch_runner.specs.Outside.{ReadsPiece, Grew, Stopped};
+ghost use Rattle.switch_runner.specs.Faults.{Reads};
+ghost use Rattle.switch_runner.specs.Memory.{NamedFile, named, file_of, faults_of, files_seen, sure_seen, untold_seen, Shelf, Basin, basin_seen, next, answer_of, reads_after, poured, refused};
 
 use crate::outside::{Failed, Sink, Store, StoreFault};
 use mp5_words::Name;
@@ -116,20 +116,18 @@ impl MemoryStore {
 }
 
 impl Store for MemoryStore {
-    ghost told = { λ store name. Some (file_of store.files name).bytes };
-
-    ghost faults = { λ store name. (file_of store.files name).faults };
+    ghost seen = { λ store. files_seen store.files };
 
     fn read_at(&mut self, name: &str, at: u64, into: &mut [u8]) -> Result<usize, StoreFault>
         requires { at ≤ 134217729 }
-        ensures keeps { (other : List ℕ)
-            → (file_of self.new.files other).bytes ≡ (file_of self.old.files other).bytes }
         ensures piece { IfOk result
             (λ n. ReadsPiece (file_of self.old.files name.now).bytes at n into.new) }
-        ensures cause { ReadCause (file_of self.old.files name.now).faults
-            (file_of self.new.files name.now).faults result }
-        ensures others { (other : List ℕ) → other ≢ name.now
-            → (file_of self.new.files other).faults ≡ (file_of self.old.files other).faults }
+        ensures reads { Reads name.now (files_seen self.old.files) (files_seen self.new.files) result }
+        // The count of the name rises only where the read fails, and then by one.
+        ensures quiet { OnOk result
+            (faults_of self.new.files name.now ≡ faults_of self.old.files name.now) }
+        ensures counted { OnErr result
+            (faults_of self.new.files name.now ≡ next (faults_of self.old.files name.now)) }
         ensures answer { result ≡ answer_of self.old name.now at (length into.old) }
         ensures numbered { self.new.reads ≡ reads_after self.old name.now }
         ensures kept { (self.new.most ≡ self.old.most) × (self.new.fails ≡ self.old.fails) }
@@ -198,13 +196,13 @@ impl MemorySink {
 }
 
 impl Sink for MemorySink {
-    ghost taken = { λ sink. Some sink.bytes };
-
-    ghost faults = { λ sink. sink.faults };
+    ghost seen = { λ sink. basin_seen sink };
 
     fn write(&mut self, piece: &[u8]) -> Result<usize, Failed>
         ensures some { IfOk result (λ n. 0 < length piece.now → 0 < n) }
-        ensures cause { WriteCause self.old.faults self.new.faults result }
+        ensures ok { IfOk result
+            (λ n. Grew (take n piece.now) (basin_seen self.old) (basin_seen self.new)) }
+        ensures err { OnErr result (Stopped piece.now (basin_seen self.old) (basin_seen self.new)) }
         ensures taken { IfOk result (λ n. n ≡ min (length piece.now) self.old.most) }
         ensures after { OnOk result (self.new ≡ poured self.old piece.now) }
         ensures after_failure { OnErr result (self.new ≡ refused self.old) }
@@ -245,9 +243,7 @@ impl SureStore {
 }
 
 impl Store for SureStore {
-    ghost told = { λ store name. Some (file_of store name).bytes };
-
-    ghost faults = { λ _ _. 0 };
+    ghost seen = { λ store. sure_seen store };
 
     fn read_at(&mut self, name: &str, at: u64, into: &mut [u8]) -> Result<usize, StoreFault>
         requires { at ≤ 134217729 }
@@ -276,9 +272,7 @@ impl SureSink {
 }
 
 impl Sink for SureSink {
-    ghost taken = { λ _. None };
-
-    ghost faults = { λ _. 0 };
+    ghost seen = { λ _. untold_seen 0 };
 
     fn write(&mut self, piece: &[u8]) -> Result<usize, Failed>
         ensures whole { result ≡ Ok (length piece.now) }
@@ -324,6 +318,12 @@ mod tests {
                 );
             }
         }
+        // One byte at a time, six reads find more than five bytes: a seventh isn't made.
+        let mut store = twelve_bytes(alloc, 1, &[7])?;
+        assert_eq!(rt;
+            read_whole(alloc, &mut store, "text", 5)?.as_slice(),
+            b"twelve".as_slice()
+        );
         let mut store = twelve_bytes(alloc, 5, &[1])?;
         assert!(rt; read_whole(alloc, &mut store, "other", 9)?.is_empty());
         let mut store = SureStore::new(Vec::new(alloc));

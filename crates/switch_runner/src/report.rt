@@ -4,10 +4,9 @@ ghost use Rattle.std.specs.Fmt.{signed_decimal};
 ghost use Rattle.std.specs.List.{flat_map};
 ghost use Rattle.capture_io.specs.Rows.{rows};
 ghost use Rattle.mp5_words.specs.Cells.{cells_at};
-ghost use Rattle.switch_runner.specs.Outside.{TookFront, gained};
-ghost use Rattle.switch_runner.specs.Faults.{WriteCause};
+ghost use Rattle.switch_runner.specs.Outside.{Grew, Stopped};
 ghost use Rattle.switch_runner.specs.Writing.{Puts, at};
-ghost use Rattle.switch_runner.specs.Report.{fields_text, packet_line, packet_lines, register_line, cell_line, cell_lines, register_lines, HasCells, done_line, run_text};
+ghost use Rattle.switch_runner.specs.Report.{fields_text, packet_line, packet_lines, register_line, cell_line, cell_lines, register_lines, HasCells, done_line, run_text, text_of};
 
 use crate::block::Block;
 use crate::outside::{Failed, Sink};
@@ -20,7 +19,7 @@ use sqlite_items::Items;
 // Puts pieces one after another.
 fn put_all<K: Sink>(block: &mut Block, out: &mut K, pieces: &[&[u8]]) -> Result<(), Failed>
     ensures { Puts (flat_map (λ piece. piece.now) pieces.now)
-        (at block.old (K.taken out.old) (K.faults out.old)) (at block.new (K.taken out.new) (K.faults out.new)) result }
+        (at block.old (K.seen out.old)) (at block.new (K.seen out.new)) result }
 {
     for piece in pieces {
         match block.put(out, piece) {
@@ -39,7 +38,7 @@ fn put_field<K: Sink>(
     value: i32,
 ) -> Result<(), Failed>
     ensures { Puts (label.now ++ signed_decimal value)
-        (at block.old (K.taken out.old) (K.faults out.old)) (at block.new (K.taken out.new) (K.faults out.new)) result }
+        (at block.old (K.seen out.old)) (at block.new (K.seen out.new)) result }
 {
     let mut digits = Buffer::new();
     block.put(out, label)?;
@@ -55,7 +54,7 @@ fn put_fields<K: Sink>(
 ) -> Result<(), Failed>
     requires { length values.now ≡ length labels.now }
     ensures { Puts (fields_text labels.now values.now)
-        (at block.old (K.taken out.old) (K.faults out.old)) (at block.new (K.taken out.new) (K.faults out.new)) result }
+        (at block.old (K.seen out.old)) (at block.new (K.seen out.new)) result }
 {
     for (i, label) in labels.iter().enumerate() {
         match put_field(block, out, label.as_slice(), values[i]) {
@@ -76,7 +75,7 @@ fn put_packet<K: Sink>(
 ) -> Result<(), Failed>
     requires { length packet.now ≡ length labels.now }
     ensures { Puts (packet_line labels.now t packet.now)
-        (at block.old (K.taken out.old) (K.faults out.old)) (at block.new (K.taken out.new) (K.faults out.new)) result }
+        (at block.old (K.seen out.old)) (at block.new (K.seen out.new)) result }
 {
     let mut digits = Buffer::new();
     block.put(out, b"pkt ")?;
@@ -94,8 +93,8 @@ fn put_packets<K: Sink>(
     packets: &[i32],
 ) -> Result<(), Failed>
     requires { length packets.now ≡ count * length labels.now }
-    ensures { Puts (packet_lines labels.now 0 (rows count (length labels.now) packets.now))
-        (at block.old (K.taken out.old) (K.faults out.old)) (at block.new (K.taken out.new) (K.faults out.new)) result }
+    ensures { Puts (text_of (packet_lines labels.now 0 (rows count (length labels.now) packets.now)))
+        (at block.old (K.seen out.old)) (at block.new (K.seen out.new)) result }
 {
     let width = labels.len();
     let mut rest = packets;
@@ -118,7 +117,7 @@ fn put_register<K: Sink>(
     value: i32,
 ) -> Result<(), Failed>
     ensures { Puts (register_line name.now value)
-        (at block.old (K.taken out.old) (K.faults out.old)) (at block.new (K.taken out.new) (K.faults out.new)) result }
+        (at block.old (K.seen out.old)) (at block.new (K.seen out.new)) result }
 {
     let mut digits = Buffer::new();
     put_all(
@@ -143,7 +142,7 @@ fn put_element<K: Sink>(
     value: i32,
 ) -> Result<(), Failed>
     ensures { Puts (register_line (name.now ++ (91 ∷ (decimal i ++ (93 ∷ [])))) value)
-        (at block.old (K.taken out.old) (K.faults out.old)) (at block.new (K.taken out.new) (K.faults out.new)) result }
+        (at block.old (K.seen out.old)) (at block.new (K.seen out.new)) result }
 {
     let mut place = Buffer::new();
     let mut digits = Buffer::new();
@@ -170,8 +169,8 @@ fn put_cell<K: Sink>(
     i: u32,
     value: i32,
 ) -> Result<(), Failed>
-    ensures { Puts (cell_line info.now i value)
-        (at block.old (K.taken out.old) (K.faults out.old)) (at block.new (K.taken out.new) (K.faults out.new)) result }
+    ensures { Puts (text_of (cell_line info.now i value))
+        (at block.old (K.seen out.old)) (at block.new (K.seen out.new)) result }
 {
     if value == info.start {
         Ok(())
@@ -192,8 +191,8 @@ fn put_cells<K: Sink>(
 ) -> Result<(), Failed>
     requires array { array < length bench.now.cells }
     requires cells { length (cells_at bench.now.cells array) ≡ info.now.length }
-    ensures { Puts (cell_lines info.now 0 (cells_at bench.now.cells array))
-        (at block.old (K.taken out.old) (K.faults out.old)) (at block.new (K.taken out.new) (K.faults out.new)) result }
+    ensures { Puts (text_of (cell_lines info.now 0 (cells_at bench.now.cells array)))
+        (at block.old (K.seen out.old)) (at block.new (K.seen out.new)) result }
 {
     for i in 0..info.length {
         match put_cell(block, out, info, i, bench.cell(array, i)) {
@@ -213,8 +212,8 @@ fn put_arrays<K: Sink>(
 ) -> Result<(), Failed>
     requires few { length infos.now ≤ 16 }
     requires cells { HasCells infos.now bench.now.cells }
-    ensures { Puts (register_lines infos.now bench.now.cells)
-        (at block.old (K.taken out.old) (K.faults out.old)) (at block.new (K.taken out.new) (K.faults out.new)) result }
+    ensures { Puts (text_of (register_lines infos.now bench.now.cells))
+        (at block.old (K.seen out.old)) (at block.new (K.seen out.new)) result }
 {
     for (array, info) in infos.iter().enumerate() {
         match put_cells(block, out, info, bench, array as u32) {
@@ -228,7 +227,7 @@ fn put_arrays<K: Sink>(
 // The last line.
 fn put_done<K: Sink>(block: &mut Block, out: &mut K, count: u32) -> Result<(), Failed>
     ensures { Puts (done_line count)
-        (at block.old (K.taken out.old) (K.faults out.old)) (at block.new (K.taken out.new) (K.faults out.new)) result }
+        (at block.old (K.seen out.old)) (at block.new (K.seen out.new)) result }
 {
     let mut digits = Buffer::new();
     put_all(
@@ -252,7 +251,7 @@ fn put_report<K: Sink>(
     requires few { length infos.now ≤ 16 }
     requires cells { HasCells infos.now bench.now.cells }
     ensures { Puts (run_text labels.now infos.now (rows count (length labels.now) packets.now) bench.now.cells count)
-        (at block.old (K.taken out.old) (K.faults out.old)) (at block.new (K.taken out.new) (K.faults out.new)) result }
+        (at block.old (K.seen out.old)) (at block.new (K.seen out.new)) result }
 {
     put_packets(block, out, count, labels, packets)?;
     put_arrays(block, out, infos, bench)?;
@@ -275,11 +274,10 @@ pub(crate) fn write_report<K: Sink>(
     requires packets { length packets.now ≡ count * length labels.now }
     requires few { length infos.now ≤ 16 }
     requires cells { HasCells infos.now bench.now.cells }
-    ensures ok { OnOk result
-        (K.taken out.new ≡ gained (run_text labels.now infos.now (rows count (length labels.now) packets.now) bench.now.cells count) (K.taken out.old)) }
-    ensures err { OnErr result
-        (TookFront (K.taken out.old) (K.taken out.new) (run_text labels.now infos.now (rows count (length labels.now) packets.now) bench.now.cells count)) }
-    ensures cause { WriteCause (K.faults out.old) (K.faults out.new) result }
+    ensures ok { OnOk result (Grew (run_text labels.now infos.now (rows count (length labels.now) packets.now)
+        bench.now.cells count) (K.seen out.old) (K.seen out.new)) }
+    ensures err { OnErr result (Stopped (run_text labels.now infos.now (rows count (length labels.now) packets.now)
+        bench.now.cells count) (K.seen out.old) (K.seen out.new)) }
 {
     let mut block = block;
     put_report(&mut block, out, count, labels, packets, infos, bench)?;

@@ -1,16 +1,16 @@
 //! The top call: the words, the program, the capture, the run, the report.
-ghost use Rattle.std.specs.Prelude.{◌≡◌, false, ◌≢◌, ◌≤◌, ◌⊎◌, ◌↔◌, ℕ, List, length, map, take, string_bytes, IfOk, IfErr, IfSome, IfNone, IsErrOf, Some, None};
+ghost use Rattle.std.specs.Prelude.{◌≡◌, false, List, length, map, string_bytes, IfOk, IfErr, IfSome, None};
 ghost use Rattle.capture_io.specs.ClassicCapture.{Record, IsCapture};
 ghost use Rattle.capture_io.specs.Header.{headers};
-ghost use Rattle.domino_tree.specs.declared.program.Program.{Program};
-ghost use Rattle.switch_runner.specs.Causes.{lacks_memory, IsAccepted, IsUnaccepted, IsAboutProgram, Because, ComesWhere, ProgramAlways, CaptureAlways, IsComplete, saw, line};
-ghost use Rattle.switch_runner.specs.CommandLine as command;
-ghost use Rattle.switch_runner.specs.Outside.{Rose, TookFront, gained};
+ghost use Rattle.switch_runner.specs.Causes.{lacks_memory, IsAccepted, IsUnaccepted, ComesWhere, report_of};
+ghost use Rattle.switch_runner.specs.CommandLine.{AsksForHelp, IsRefused, request_with};
+ghost use Rattle.switch_runner.specs.Laws.{Because, CaptureAlways, IsComplete, Laws, ProgramAlways, ReadsAsked, Reports, StopsAtProgram, Tells, request, texts};
+ghost use Rattle.switch_runner.specs.Outside.{ChangesOnly, IsKept};
 ghost use Rattle.switch_runner.specs.Report.{report};
-ghost use Rattle.switch_runner.specs.Top.{AreWide, NoSource, NoHeaders, Ends, is_no_memory, read_status};
+ghost use Rattle.switch_runner.specs.Top.{AreWide, NoSource, NoHeaders, Ends, Serves, is_no_memory, read_status};
 
 use crate::block::Block;
-use crate::command_line::asked;
+use crate::command_line::{Mode, asked};
 use crate::fabric::Fabric;
 use crate::labels::labels_of;
 use crate::line::write_line;
@@ -38,38 +38,33 @@ pub fn switch_top<S: Store, K: Sink, F: Fabric>(
     store: &mut S,
     out: &mut K,
     err: &mut K,
-    _fabric: &mut F,
+    fabric: &mut F,
 ) -> Status
     // Help comes exactly where the words ask for it, and Words exactly where they are refused, unless memory
-    // runs out. Where they aren't taken, nothing is read or written.
-    ensures help { ComesWhere (command.AsksForHelp (map string_bytes words.now)) result Status.Help }
-    ensures words { ComesWhere (command.IsRefused (map string_bytes words.now)) result Status.Words }
-    ensures untouched { command.asked (map string_bytes words.now) ≡ None → (K.taken out.new ≡ K.taken out.old) × ((name : List ℕ) → S.faults store.new name ≡ S.faults store.old name) }
+    // runs out. Where they aren't taken, the store and the output are as they were.
+    ensures help { ComesWhere (AsksForHelp (texts words.now)) result Status.Help }
+    ensures refused { ComesWhere (IsRefused (texts words.now)) result Status.Words }
+    ensures untaken { request words.now ≡ None → (store.new ≡ store.old) × (out.new ≡ out.old) }
 
-    // Each other answer has its cause. Done comes only with the whole report of the sequential run.
-    ensures because { IfSome (command.asked (map string_bytes words.now)) (λ names. Because result
-        (saw (S.told store.old) (S.faults store.old) (S.faults store.new) (K.faults out.old) (K.faults out.new) (K.taken out.old) (K.taken out.new) names.0 names.1)) }
+    // Each other answer has its cause, and the output gains the whole report, a front of it or nothing.
+    ensures because { Because words.now (S.seen store.old) (S.seen store.new) result }
+    ensures out { Reports words.now (S.seen store.old) (K.seen out.old) (K.seen out.new) result }
 
     // Where no read and no write fails, the told input decides the answer, unless memory runs out.
-    ensures program_always { IfSome (command.asked (map string_bytes words.now)) (λ names. ProgramAlways result
-        (saw (S.told store.old) (S.faults store.old) (S.faults store.new) (K.faults out.old) (K.faults out.new) (K.taken out.old) (K.taken out.new) names.0 names.1)) }
-    ensures capture_always { IfSome (command.asked (map string_bytes words.now)) (λ names. CaptureAlways result
-        (saw (S.told store.old) (S.faults store.old) (S.faults store.new) (K.faults out.old) (K.faults out.new) (K.taken out.old) (K.taken out.new) names.0 names.1)) }
-    ensures complete { IfSome (command.asked (map string_bytes words.now)) (λ names. IsComplete result
-        (saw (S.told store.old) (S.faults store.old) (S.faults store.new) (K.faults out.old) (K.faults out.new) (K.taken out.old) (K.taken out.new) names.0 names.1)) }
+    ensures program { ProgramAlways words.now (S.seen store.old) (S.seen store.new) result }
+    ensures capture { CaptureAlways words.now (S.seen store.old) (S.seen store.new) result }
+    ensures complete { IsComplete words.now (S.seen store.old) (S.seen store.new) result }
 
-    // A refused program means that the capture isn't read, and no other name is ever read.
-    ensures unread { IfSome (command.asked (map string_bytes words.now)) (λ names.
-        IsAboutProgram result → (name : List ℕ) → name ≢ names.0 → S.faults store.new name ≡ S.faults store.old name) }
-    ensures others { IfSome (command.asked (map string_bytes words.now)) (λ names.
-        (name : List ℕ) → name ≢ names.0 → name ≢ names.1 → S.faults store.new name ≡ S.faults store.old name) }
+    // The store tells the same, no name but the two is read, and the capture only behind a program.
+    ensures kept { IsKept (S.seen store.old) (S.seen store.new) }
+    ensures names { ReadsAsked words.now (S.seen store.old) (S.seen store.new) }
+    ensures stops { StopsAtProgram words.now (S.seen store.old) (S.seen store.new) result }
 
-    // Standard error gains the one line of the answer, or the text of the help; a front of it where a write
-    // to it fails.
-    ensures told { ¬ Rose (K.faults err.old) (K.faults err.new) → K.taken err.new ≡ gained (line result) (K.taken err.old) }
-    ensures line { TookFront (K.taken err.old) (K.taken err.new) (line result) }
-    ensures silent { result ≡ Status.Done → K.taken err.new ≡ K.taken err.old }
+    // No mode runs a network yet, and standard error gains the one line of the answer.
+    ensures fabric { fabric.new ≡ fabric.old }
+    ensures err { Tells result (K.seen err.old) (K.seen err.new) }
 {
+    let _ = fabric;
     let status = run_words(alloc, words, store, out);
     tell(err, &status);
     status
@@ -82,34 +77,33 @@ fn run_words<S: Store, K: Sink>(
     store: &mut S,
     out: &mut K,
 ) -> Status
-    ensures help { ComesWhere (command.AsksForHelp (map string_bytes words.now)) result Status.Help }
-    ensures words { ComesWhere (command.IsRefused (map string_bytes words.now)) result Status.Words }
-    ensures untouched { command.asked (map string_bytes words.now) ≡ None → (K.taken out.new ≡ K.taken out.old) × ((name : List ℕ) → S.faults store.new name ≡ S.faults store.old name) }
-    ensures because { IfSome (command.asked (map string_bytes words.now)) (λ names. Because result
-        (saw (S.told store.old) (S.faults store.old) (S.faults store.new) (K.faults out.old) (K.faults out.new) (K.taken out.old) (K.taken out.new) names.0 names.1)) }
-    ensures unread { IfSome (command.asked (map string_bytes words.now)) (λ names.
-        IsAboutProgram result → (name : List ℕ) → name ≢ names.0 → S.faults store.new name ≡ S.faults store.old name) }
-    ensures others { IfSome (command.asked (map string_bytes words.now)) (λ names.
-        (name : List ℕ) → name ≢ names.0 → name ≢ names.1 → S.faults store.new name ≡ S.faults store.old name) }
+    ensures laws { Laws words.now (S.seen store.old) (S.seen store.new) (K.seen out.old) (K.seen out.new) result }
+    ensures untaken { request words.now ≡ None → (store.new ≡ store.old) × (out.new ≡ out.old) }
 {
     match asked(alloc, words) {
-        Ok(files) => run_files(alloc, files.program, files.capture, store, out),
+        Ok(request) => serve(
+            alloc,
+            request.mode,
+            request.program,
+            request.capture,
+            store,
+            out,
+        ),
         Err(status) => status,
     }
 }
 
 /// Reads the program and the capture, runs the transaction and writes the report.
-fn run_files<S: Store, K: Sink>(
+fn serve<S: Store, K: Sink>(
     alloc: Global,
+    mode: Mode,
     program: &str,
     capture: &str,
     store: &mut S,
     out: &mut K,
 ) -> Status
-    ensures because { Because result (saw (S.told store.old) (S.faults store.old) (S.faults store.new)
-        (K.faults out.old) (K.faults out.new) (K.taken out.old) (K.taken out.new) program.now capture.now) }
-    ensures unread { IsAboutProgram result → (name : List ℕ) → name ≢ program.now → S.faults store.new name ≡ S.faults store.old name }
-    ensures others { (name : List ℕ) → name ≢ program.now → name ≢ capture.now → S.faults store.new name ≡ S.faults store.old name }
+    ensures { Serves (request_with mode program.now capture.now) (S.seen store.old) (S.seen store.new)
+        (K.seen out.old) (K.seen out.new) result }
 {
     let checked = match read_source(alloc, store, program) {
         Ok(checked) => checked,
@@ -119,16 +113,15 @@ fn run_files<S: Store, K: Sink>(
         Ok(headers) => headers,
         Err(status) => return status,
     };
-    run_and_report(alloc, &checked, &headers, out)
+    run_and_report(alloc, mode, &checked, headers, out)
 }
 
 /// Reads a program.
 fn read_source<S: Store>(alloc: Global, store: &mut S, name: &str) -> Result<Checked, Status>
-    ensures keeps { (other : List ℕ) → S.told store.new other ≡ S.told store.old other }
-    ensures others { (other : List ℕ) → other ≢ name.now → S.faults store.new other ≡ S.faults store.old other }
-    ensures later { S.faults store.old name.now ≤ S.faults store.new name.now }
-    ensures read { IfOk result (λ program. IfSome (S.told store.old name.now) (λ text. IsAccepted text program)) }
-    ensures refused { IfErr result (NoSource (S.told store.old name.now) (S.faults store.old name.now) (S.faults store.new name.now)) }
+    ensures only { ChangesOnly name.now (S.seen store.old) (S.seen store.new) }
+    ensures read { IfOk result
+        (λ program. IfSome ((S.seen store.old).told name.now) (λ text. IsAccepted text program)) }
+    ensures refused { IfErr result (NoSource name.now (S.seen store.old) (S.seen store.new)) }
 {
     let text = match read_whole(alloc, store, name, MAX_TEXT) {
         Ok(text) => text,
@@ -175,11 +168,10 @@ fn read_headers<S: Store>(
     name: &str,
     fields: &FieldNames,
 ) -> Result<Capture, Status>
-    ensures keeps { (other : List ℕ) → S.told store.new other ≡ S.told store.old other }
-    ensures others { (other : List ℕ) → other ≢ name.now → S.faults store.new other ≡ S.faults store.old other }
-    ensures later { S.faults store.old name.now ≤ S.faults store.new name.now }
-    ensures read { IfOk result (λ c. (records : List Record) × (c ≡ headers fields.now records) × IfSome (S.told store.old name.now) (λ bytes. IsCapture bytes records)) }
-    ensures refused { IfErr result (NoHeaders (S.told store.old name.now) (S.faults store.old name.now) (S.faults store.new name.now)) }
+    ensures only { ChangesOnly name.now (S.seen store.old) (S.seen store.new) }
+    ensures read { IfOk result (λ c. (records : List Record) × (c ≡ headers fields.now records)
+        × IfSome ((S.seen store.old).told name.now) (λ bytes. IsCapture bytes records)) }
+    ensures refused { IfErr result (NoHeaders name.now (S.seen store.old) (S.seen store.new)) }
 {
     let bytes = match read_whole(alloc, store, name, MAX_CAPTURE) {
         Ok(bytes) => bytes,
@@ -209,15 +201,26 @@ fn read_fault(fault: StoreFault) -> Status
     }
 }
 
-/// Runs the transaction on each header in order, and then writes the report.
+/// Runs the transaction on each header in the way of the mode, and then writes the report.
 fn run_and_report<K: Sink>(
     alloc: Global,
+    mode: Mode,
     checked: &Checked,
-    headers: &Capture,
+    headers: Capture,
     out: &mut K,
 ) -> Status
-    requires { AreWide (length checked.now.packet.fields) headers.now }
-    ensures { Ends (report checked.now headers.now) (K.taken out.old) (K.taken out.new) (K.faults out.old) (K.faults out.new) result }
+    requires { AreWide (length checked.now.packet.fields) headers }
+    ensures { Ends (report_of mode checked.now headers) (K.seen out.old) (K.seen out.new) result }
+{
+    match mode {
+        Mode::One => run_in_order(alloc, checked, headers, out),
+    }
+}
+
+/// Runs the transaction on each header in order, and then writes the report.
+fn run_in_order<K: Sink>(alloc: Global, checked: &Checked, headers: Capture, out: &mut K) -> Status
+    requires { AreWide (length checked.now.packet.fields) headers }
+    ensures { Ends (report checked.now headers) (K.seen out.old) (K.seen out.new) result }
 {
     let Ok(end) = run_one(alloc, checked, headers) else {
         return Status::NoMemory;
@@ -231,7 +234,7 @@ fn run_and_report<K: Sink>(
     match write_report(
         block,
         out,
-        headers.count(),
+        end.count,
         &labels,
         &end.packets,
         checked.arrays(),
@@ -244,8 +247,7 @@ fn run_and_report<K: Sink>(
 
 /// Writes what tells of a status.
 fn tell<K: Sink>(err: &mut K, status: &Status)
-    ensures front { TookFront (K.taken err.old) (K.taken err.new) (line status.now) }
-    ensures whole { ¬ Rose (K.faults err.old) (K.faults err.new) → K.taken err.new ≡ gained (line status.now) (K.taken err.old) }
+    ensures { Tells status.now (K.seen err.old) (K.seen err.new) }
 {
     let _ = write_line(err, status);
 }

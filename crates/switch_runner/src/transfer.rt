@@ -1,7 +1,7 @@
 //! Reading a file whole, and writing bytes whole.
-ghost use Rattle.std.specs.Prelude.{◌≡◌, ◌≢◌, ◌≤◌, ◌<◌, ◌+◌, ◌++◌, ℕ, List, [], length, take, vec_len, IfOk, IfSome, OnOk, OnErr};
-ghost use Rattle.switch_runner.specs.Outside.{TookFront, gained};
-ghost use Rattle.switch_runner.specs.Faults.{ReadCause, WriteCause};
+ghost use Rattle.std.specs.Prelude.{◌≡◌, ◌≤◌, ◌<◌, ◌+◌, length, take, vec_len, IfOk, IfSome, OnOk, OnErr};
+ghost use Rattle.switch_runner.specs.Outside.{Grew, Stopped};
+ghost use Rattle.switch_runner.specs.Faults.{Reads};
 ghost use Rattle.switch_runner.specs.Transfer.{ReadsOn};
 
 use crate::outside::{Failed, Sink, Store, StoreFault};
@@ -18,12 +18,9 @@ pub(crate) fn read_whole<S: Store>(
     limit: u64,
 ) -> Result<Vec<u8>, StoreFault>
     requires { limit ≤ 134217728 }
-    ensures keeps { (other : List ℕ) → S.told store.new other ≡ S.told store.old other }
-    ensures read { IfOk result
-        (λ v. IfSome (S.told store.old name.now) (λ bytes. v.items ≡ take (limit + 1) bytes)) }
-    ensures cause { ReadCause (S.faults store.old name.now) (S.faults store.new name.now) result }
-    ensures others { (other : List ℕ) → other ≢ name.now
-        → S.faults store.new other ≡ S.faults store.old other }
+    ensures read { IfOk result (λ v. IfSome ((S.seen store.old).told name.now)
+        (λ bytes. v.items ≡ take (limit + 1) bytes)) }
+    ensures reads { Reads name.now (S.seen store.old) (S.seen store.new) result }
 {
     match vec![in alloc; 0u8; PIECE] {
         Ok(mut buffer) => read_by(alloc, store, name, limit, buffer.as_mut_slice()),
@@ -41,12 +38,9 @@ fn read_by<S: Store>(
 ) -> Result<Vec<u8>, StoreFault>
     requires limited { limit ≤ 134217728 }
     requires room { length buffer.old ≡ PIECE }
-    ensures keeps { (other : List ℕ) → S.told store.new other ≡ S.told store.old other }
-    ensures read { IfOk result
-        (λ v. IfSome (S.told store.old name.now) (λ bytes. v.items ≡ take (limit + 1) bytes)) }
-    ensures cause { ReadCause (S.faults store.old name.now) (S.faults store.new name.now) result }
-    ensures others { (other : List ℕ) → other ≢ name.now
-        → S.faults store.new other ≡ S.faults store.old other }
+    ensures read { IfOk result (λ v. IfSome ((S.seen store.old).told name.now)
+        (λ bytes. v.items ≡ take (limit + 1) bytes)) }
+    ensures reads { Reads name.now (S.seen store.old) (S.seen store.new) result }
 {
     let most = limit as usize + 1;
     let mut text = Vec::new(alloc);
@@ -69,15 +63,11 @@ fn read_more<S: Store>(
     text: &mut Vec<u8>,
 ) -> Result<usize, StoreFault>
     requires { vec_len text.old ≤ 134217729 }
-    ensures keeps { (other : List ℕ) → S.told store.new other ≡ S.told store.old other }
     ensures within { IfOk result (λ n. n ≤ length piece.new) }
     ensures longer { IfOk result (λ n. vec_len text.new ≡ vec_len text.old + n) }
-    ensures grown { IfOk result
-        (λ n. IfSome (S.told store.old name.now)
+    ensures grown { IfOk result (λ n. IfSome ((S.seen store.old).told name.now)
         (λ bytes. ReadsOn bytes text.old.items n (length piece.old) text.new.items)) }
-    ensures cause { ReadCause (S.faults store.old name.now) (S.faults store.new name.now) result }
-    ensures others { (other : List ℕ) → other ≢ name.now
-        → S.faults store.new other ≡ S.faults store.old other }
+    ensures reads { Reads name.now (S.seen store.old) (S.seen store.new) result }
 {
     match store.read_at(name, text.len() as u64, piece) {
         Ok(count) => match text.extend_from_slice(&piece[..count]) {
@@ -90,9 +80,8 @@ fn read_more<S: Store>(
 
 /// Writes all bytes, going on after a short write.
 pub(crate) fn write_all<K: Sink>(out: &mut K, bytes: &[u8]) -> Result<(), Failed>
-    ensures ok { OnOk result (K.taken out.new ≡ gained bytes.now (K.taken out.old)) }
-    ensures err { OnErr result (TookFront (K.taken out.old) (K.taken out.new) bytes.now) }
-    ensures cause { WriteCause (K.faults out.old) (K.faults out.new) result }
+    ensures ok { OnOk result (Grew bytes.now (K.seen out.old) (K.seen out.new)) }
+    ensures err { OnErr result (Stopped bytes.now (K.seen out.old) (K.seen out.new)) }
 {
     let mut done = 0;
     while done < bytes.len() {
@@ -108,9 +97,8 @@ pub(crate) fn write_all<K: Sink>(out: &mut K, bytes: &[u8]) -> Result<(), Failed
 fn write_more<K: Sink>(out: &mut K, bytes: &[u8]) -> Result<usize, Failed>
     ensures within { IfOk result (λ n. n ≤ length bytes.now) }
     ensures some { IfOk result (λ n. 0 < length bytes.now → 0 < n) }
-    ensures ok { IfOk result (λ n. K.taken out.new ≡ gained (take n bytes.now) (K.taken out.old)) }
-    ensures err { OnErr result (TookFront (K.taken out.old) (K.taken out.new) bytes.now) }
-    ensures cause { WriteCause (K.faults out.old) (K.faults out.new) result }
+    ensures ok { IfOk result (λ n. Grew (take n bytes.now) (K.seen out.old) (K.seen out.new)) }
+    ensures err { OnErr result (Stopped bytes.now (K.seen out.old) (K.seen out.new)) }
 {
     let room = PIECE.min(bytes.len());
     out.write(&bytes[..room])

@@ -3,7 +3,7 @@ use Rattle.std.proofs.lemmas.List.{map_more}
 use Rattle.std.proofs.lemmas.Int.{to_z-of_z}
 use Rattle.capture_io.specs.declared.source.Source.{Source}
 use Rattle.capture_io.specs.declared.source.Source.TheVariants.{Arrival}
-use Rattle.capture_io.specs.Fields.{value_in}
+use Rattle.capture_io.specs.Header.{value_in}
 use Rattle.capture_io.proofs.reading.push_fields.Goals as goal
 
 pub loop-source-preserved : goal.loop-source-preserved

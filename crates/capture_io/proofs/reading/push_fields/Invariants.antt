@@ -1,5 +1,5 @@
 use Rattle.std.proofs.Common.{◌≡◌, ◌++◌, map, take}
-use Rattle.capture_io.specs.Fields.{value_in}
+use Rattle.capture_io.specs.Header.{value_in}
 use Rattle.capture_io.proofs.reading.push_fields.Given as goal
 
 abbrev pub invariant-loop-source : goal.invariant-loop-source

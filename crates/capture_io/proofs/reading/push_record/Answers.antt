@@ -3,8 +3,7 @@ use Rattle.std.specs.Prelude.{FitsSigned}
 use Rattle.std.proofs.lemmas.Int.{to_z-of_z}
 use Rattle.std.proofs.lemmas.Result.{on_ok_weaker}
 use Rattle.capture_io.specs.ClassicCapture.{Record}
-use Rattle.capture_io.specs.Header.{ipv4, arrival}
-use Rattle.capture_io.specs.Fields.{value_in}
+use Rattle.capture_io.specs.Header.{ipv4, arrival, value_in}
 use Rattle.capture_io.proofs.Packets.{values-same}
 use Rattle.capture_io.proofs.reading.push_record.Goals.{then-in_packet, else-in_packet}
 use Rattle.capture_io.proofs.reading.push_record.Goals as goal

@@ -1,7 +1,7 @@
 use Rattle.std.proofs.Common.{◌≡◌, ℕ, ◌*◌, ◌∙◌, length, map, sym, ap, arith}
 use Rattle.std.specs.Vec.{vec_len}
 use Rattle.std.proofs.lemmas.List.{length-map}
-use Rattle.capture_io.specs.Fields.{source}
+use Rattle.capture_io.specs.Header.{source}
 use Rattle.capture_io.specs.Reading.{first_moment}
 use Rattle.capture_io.proofs.WholeCapture.{rows_fit, rows_read}
 use Rattle.capture_io.proofs.reading.read.Goals as goal

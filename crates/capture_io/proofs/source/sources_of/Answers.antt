@@ -1,7 +1,7 @@
 use Rattle.std.proofs.Common.{◌≡◌, ℕ, ◌+◌, ◌∷◌, ◌++◌, [], List, map, take, ap, sym, ◌∙◌}
 use Rattle.std.proofs.lemmas.List.{map_more}
 use Rattle.std.proofs.lemmas.Option.{get_or_from_slice_get, slice_get_within}
-use Rattle.capture_io.specs.Fields.{source}
+use Rattle.capture_io.specs.Header.{source}
 use Rattle.capture_io.proofs.source.sources_of.Goals as goal
 
 pub loop-i-preserved : goal.loop-i-preserved

@@ -1,5 +1,5 @@
 use Rattle.std.proofs.Common.{◌≡◌, map, take}
-use Rattle.capture_io.specs.Fields.{source}
+use Rattle.capture_io.specs.Header.{source}
 use Rattle.capture_io.proofs.source.sources_of.Given as goal
 
 abbrev pub invariant-loop-i : goal.invariant-loop-i

@@ -10,17 +10,17 @@ use Rattle.switch_runner.proofs.command_line.asked.Goals as goal
 
 pub returns-in-Ok-clause-taken : goal.returns-in-Ok-clause-taken
 returns-in-Ok-clause-taken c =
-    IfOk-weaker c.files_of.result _ _
+    IfOk-weaker c.request_of.result _ _
     (λ f h. asked_is (map string_bytes c.args.words.now) (found_of c.in-Ok.matches) c.in-Ok.ensures.fails c.in-Ok.ensures.rows ∙ h)
-    c.files_of.ensures.taken
+    c.request_of.ensures.taken
 
 pub returns-in-Ok-clause-refused : goal.returns-in-Ok-clause-refused
 returns-in-Ok-clause-refused c =
     let words : List Text = map string_bytes c.args.words.now in
-    IfErr-weaker c.files_of.result _ _
+    IfErr-weaker c.request_of.result _ _
     (λ s h. subst (λ (x : Status). NotTaken words x) (sym h.0)
     (refused_without words c.in-Ok.ensures.fails (asked_is words (found_of c.in-Ok.matches) c.in-Ok.ensures.fails c.in-Ok.ensures.rows ∙ h.1)))
-    c.files_of.ensures.refused
+    c.request_of.ensures.refused
 
 pub returns-in-Err-clause-refused : goal.returns-in-Err-clause-refused
 returns-in-Err-clause-refused c =

@@ -8,5 +8,5 @@ use Rattle.switch_runner.proofs.line.write_pieces.Given as goal
 abbrev pub invariant-loop-piece : goal.invariant-loop-piece
 invariant-loop-piece g l =
     Goes (flat_map (λ piece. piece.now) l.pieces) (flat_map (λ piece. piece.now) (drop l.piece-index l.pieces))
-    (at [] (g.K.Sink.taken l.initial.err) (g.K.Sink.faults l.initial.err))
-    (at [] (g.K.Sink.taken l.err) (g.K.Sink.faults l.err))
+    (at [] (g.K.Sink.seen l.initial.err))
+    (at [] (g.K.Sink.seen l.err))

@@ -8,5 +8,5 @@ use Rattle.switch_runner.proofs.report.put_all.Given as goal
 abbrev pub invariant-loop-piece : goal.invariant-loop-piece
 invariant-loop-piece g l =
     Goes (flat_map (λ piece. piece.now) l.pieces) (flat_map (λ piece. piece.now) (drop l.piece-index l.pieces))
-    (at l.initial.block (g.K.Sink.taken l.initial.out) (g.K.Sink.faults l.initial.out))
-    (at l.block (g.K.Sink.taken l.out) (g.K.Sink.faults l.out))
+    (at l.initial.block (g.K.Sink.seen l.initial.out))
+    (at l.block (g.K.Sink.seen l.out))

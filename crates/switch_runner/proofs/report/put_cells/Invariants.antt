@@ -1,13 +1,13 @@
 use Rattle.std.proofs.Common.{drop}
 use Rattle.mp5_words.specs.Cells.{cells_at}
 use Rattle.switch_runner.specs.Writing.{at}
-use Rattle.switch_runner.specs.Report.{cell_lines}
+use Rattle.switch_runner.specs.Report.{cell_lines, text_of}
 use Rattle.switch_runner.proofs.WritingLemmas.{Goes}
 use Rattle.switch_runner.proofs.report.put_cells.Given as goal
 
 -- the cells before this one are put
 abbrev pub invariant-loop-i : goal.invariant-loop-i
 invariant-loop-i g l =
-    Goes (cell_lines l.info 0 (cells_at l.bench.cells l.array)) (cell_lines l.info l.i (drop l.i (cells_at l.bench.cells l.array)))
-    (at l.initial.block (g.K.Sink.taken l.initial.out) (g.K.Sink.faults l.initial.out))
-    (at l.block (g.K.Sink.taken l.out) (g.K.Sink.faults l.out))
+    Goes (text_of (cell_lines l.info 0 (cells_at l.bench.cells l.array))) (text_of (cell_lines l.info l.i (drop l.i (cells_at l.bench.cells l.array))))
+    (at l.initial.block (g.K.Sink.seen l.initial.out))
+    (at l.block (g.K.Sink.seen l.out))

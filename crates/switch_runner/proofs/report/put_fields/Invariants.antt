@@ -8,5 +8,5 @@ use Rattle.switch_runner.proofs.report.put_fields.Given as goal
 abbrev pub invariant-loop-i : goal.invariant-loop-i
 invariant-loop-i g l =
     Goes (fields_text l.labels l.values) (fields_text (drop l.i l.labels) (drop l.i l.values))
-    (at l.initial.block (g.K.Sink.taken l.initial.out) (g.K.Sink.faults l.initial.out))
-    (at l.block (g.K.Sink.taken l.out) (g.K.Sink.faults l.out))
+    (at l.initial.block (g.K.Sink.seen l.initial.out))
+    (at l.block (g.K.Sink.seen l.out))

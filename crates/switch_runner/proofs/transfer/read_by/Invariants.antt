@@ -1,9 +1,14 @@
-use Rattle.std.proofs.Common.{◌≡◌, ◌≢◌, ◌≤◌, ◌-◌, ℕ, List, take, vec_len, IfSome}
+use Rattle.std.proofs.Common.{◌≡◌, ◌≤◌, ◌-◌, take, vec_len, IfSome}
+use Rattle.switch_runner.specs.Outside.{ChangesOnly}
 use Rattle.switch_runner.proofs.transfer.read_by.Given as goal
 
+-- the text is a front of what is told, and only the count of the name has changed
 abbrev pub invariant-loop-text : goal.invariant-loop-text
-invariant-loop-text g l =
-    ((other : List ℕ) → g.S.Store.told l.store other ≡ g.S.Store.told l.initial.store other) × IfSome (g.S.Store.told l.initial.store l.name) (λ bytes. l.text.items ≡ take (vec_len l.text) bytes) × (g.S.Store.faults l.initial.store l.name ≤ g.S.Store.faults l.store l.name) × ((other : List ℕ) → other ≢ l.name → g.S.Store.faults l.store other ≡ g.S.Store.faults l.initial.store other) × (vec_len l.text ≤ l.most)
+invariant-loop-text g l = record {
+  only : ChangesOnly l.name (g.S.Store.seen l.initial.store) (g.S.Store.seen l.store);
+  front : IfSome ((g.S.Store.seen l.initial.store).told l.name) (λ bytes. l.text.items ≡ take (vec_len l.text) bytes);
+  within : vec_len l.text ≤ l.most;
+}
 
 abbrev pub decreases-loop-text : goal.decreases-loop-text
 decreases-loop-text g l = l.most - vec_len l.text

@@ -1,0 +1,57 @@
+-- The laws of a call, from what a request does, or from words that aren't taken.
+use Rattle.std.proofs.Common.{◌≡◌, ◌≢◌, inr, ℕ, List, Some, refl, arith}
+use Rattle.std.specs.Prelude.{String}
+use Rattle.capture_io.specs.declared.fault.CaptureFault.{CaptureFault}
+use Rattle.switch_runner.specs.declared.status.ProgramFault.{ProgramFault}
+use Rattle.switch_runner.specs.declared.status.Status.{Status}
+use Rattle.switch_runner.specs.declared.status.Status.TheVariants as status
+use Rattle.switch_runner.specs.Outside.{StoreView, SinkView, ChangesOnly}
+use Rattle.switch_runner.specs.CommandLine.{Request, NotTaken}
+use Rattle.switch_runner.specs.Causes.{Cause, IsOrNoMemory, IsReadThrough, IsProgram, IsNoProgram, IsSomeCapture, IsNoCapture}
+use Rattle.switch_runner.specs.Laws.{Laws, Outputs, StopsAt, texts, request}
+use Rattle.switch_runner.specs.Top.{Serves}
+use Rattle.switch_runner.proofs.CauseLemmas.{program_always, capture_always, complete}
+use Rattle.switch_runner.proofs.CommandLemmas.{taken_help, taken_words, not_taken_help, not_taken_words, not_taken_asked, if_these}
+
+pub laws_of_request : {Z : Type 0} (words : List (String Z)) (r : Request) (old new : StoreView) (before after : SinkView) (s : Status) → request words ≡ Some r → Serves r old new before after s
+    → Laws words old new before after s
+laws_of_request words r old new before after s e h = record {
+  help = taken_help (texts words) s r old new e h.cause;
+  refused = taken_words (texts words) s r old new e h.cause;
+  because = if_these (request words) r _ e h.cause;
+  reports = if_these (request words) r _ e h.outputs;
+  program = if_these (request words) r _ e (program_always s r old new h.cause);
+  capture = if_these (request words) r _ e (capture_always s r old new h.cause);
+  complete = if_these (request words) r _ e (complete s r old new h.cause);
+  kept = h.kept;
+  names = if_these (request words) r _ e h.others;
+  stops = if_these (request words) r _ e h.stops;
+}
+
+-- nothing has changed, and there was no memory for the words at most
+pub laws_of_words : {Z : Type 0} (words : List (String Z)) (store : StoreView) (out : SinkView) (s : Status) → NotTaken (texts words) s → Laws words store store out out s
+laws_of_words words store out s h =
+    let same : (name : List ℕ) → ChangesOnly name store store = λ name. record { told = λ other. refl; later = omega arith; others = λ other ne. refl } in
+    record {
+      help = not_taken_help (texts words) s h;
+      refused = not_taken_words (texts words) s h;
+      because = not_taken_asked (texts words) s (λ a r. Cause a r store store) (λ r. tt) h;
+      reports = not_taken_asked (texts words) s (λ a r. Outputs a r store out out) (λ r. record { later = omega arith; text = refl }) h;
+      program =
+          not_taken_asked (texts words) s
+          (λ a r. (text : List ℕ) (f : ProgramFault) → store.told r.program ≡ Some text → IsNoProgram f text → IsReadThrough r store store → IsOrNoMemory a (status.Program f))
+          (λ r text f e none through. inr refl) h;
+      capture =
+          not_taken_asked (texts words) s
+          (λ a r. (text bytes : List ℕ) (f : CaptureFault) → store.told r.program ≡ Some text → store.told r.capture ≡ Some bytes → IsProgram text → IsNoCapture f bytes → IsReadThrough r store store
+          → IsOrNoMemory a (status.Capture f))
+          (λ r text bytes f e g p none through. inr refl) h;
+      complete =
+          not_taken_asked (texts words) s
+          (λ a r. (text bytes : List ℕ) → store.told r.program ≡ Some text → store.told r.capture ≡ Some bytes → IsProgram text → IsSomeCapture bytes → IsReadThrough r store store → a ≢ status.WriteFault
+          → IsOrNoMemory a status.Done)
+          (λ r text bytes e f p c through wrote. inr refl) h;
+      kept = record { told = λ name. refl; later = λ name. omega arith };
+      names = not_taken_asked (texts words) s (λ a r. (name : List ℕ) → name ≢ r.program → name ≢ r.capture → store.faults name ≡ store.faults name) (λ r name p c. refl) h;
+      stops = not_taken_asked (texts words) s (λ a r. StopsAt r store store a) (λ r. record { answered = λ about. same r.program; told = λ text e isnt. same r.program }) h;
+    }

@@ -1,0 +1,30 @@
+use Rattle.std.proofs.Common.{◌∙◌, List, ℤ, length, sym, ap, subst}
+use Rattle.capture_io.specs.Header.{headers}
+use Rattle.switch_runner.specs.Causes.{report_of}
+use Rattle.switch_runner.specs.CommandLine.{request_with}
+use Rattle.switch_runner.specs.Top.{AreWide, Ends}
+use Rattle.switch_runner.proofs.CauseLemmas.{serves_no_source, serves_no_headers, serves_run}
+use Rattle.switch_runner.proofs.TopLemmas.{wide_headers}
+use Rattle.switch_runner.proofs.top.serve.Goals as goal
+
+pub returns-in-Err : goal.returns-in-Err
+returns-in-Err g c =
+    serves_no_source c.in-Err.status (request_with c.args.mode c.args.program.now c.args.capture.now) _ _ _ c.in-Err.ensures.only c.in-Err.ensures.refused
+
+pub returns-in-Err-read_headers : goal.returns-in-Err-read_headers
+returns-in-Err-read_headers g c =
+    serves_no_headers c.in-Err-read_headers.status (request_with c.args.mode c.args.program.now c.args.capture.now) c.in-Ok.checked _ _ _ _
+    c.in-Ok.ensures.only c.in-Err-read_headers.ensures.only c.in-Ok.ensures.read c.in-Err-read_headers.ensures.refused
+
+pub run_and_report-requires : goal.run_and_report-requires
+run_and_report-requires g c =
+    let read = c.in-Ok-read_headers.ensures.read in
+    subst (λ (hs : List (List ℤ)). AreWide (length c.in-Ok.checked.packet.fields) hs) (sym (read.1 ∙ ap (λ fields. headers fields read.0) c.field_names.ensures)) (wide_headers c.in-Ok.checked.packet.fields read.0)
+
+pub returns : goal.returns
+returns g c =
+    let read = c.in-Ok-read_headers.ensures.read in
+    serves_run c.run_and_report.result (request_with c.args.mode c.args.program.now c.args.capture.now) c.in-Ok.checked read.0 _ _ _ _ _
+    c.in-Ok.ensures.only c.in-Ok-read_headers.ensures.only c.in-Ok.ensures.read read.2
+    (subst (λ (hs : List (List ℤ)). Ends (report_of c.args.mode c.in-Ok.checked hs) (g.K.Sink.seen c.args.out.now) (g.K.Sink.seen c.run_and_report.new.out) c.run_and_report.result)
+    (read.1 ∙ ap (λ fields. headers fields read.0) c.field_names.ensures) c.run_and_report.ensures)

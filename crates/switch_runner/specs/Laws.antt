@@ -1,0 +1,81 @@
+-- The laws of the top call: what each answer means, and what a call leaves as it was.
+use Rattle.std.specs.Prelude.{◌≡◌, ◌≢◌, ◌≤◌, ℕ, List, map, Option, Some, IfSome, String, string_bytes}
+use Rattle.capture_io.specs.declared.fault.CaptureFault.{CaptureFault}
+use Rattle.switch_runner.specs.declared.status.ProgramFault.{ProgramFault}
+use Rattle.switch_runner.specs.declared.status.Status.{Status}
+use Rattle.switch_runner.specs.declared.status.Status.TheVariants as status
+use Rattle.switch_runner.specs.Outside.{StoreView, SinkView, Rose, TookFront, gained, ChangesOnly, IsKept}
+use Rattle.switch_runner.specs.CommandLine.{Request, AsksForHelp, IsRefused, asked}
+use Rattle.switch_runner.specs.Causes.{Cause, Gained, ComesWhere, IsOrNoMemory, IsReadThrough, IsProgram, IsNoProgram, IsSomeCapture, IsNoCapture, IsAboutProgram, line}
+
+-- the bytes of each word
+abbrev pub texts : {Z : Type 0} → List (String Z) → List (List ℕ)
+texts words = map string_bytes words
+
+-- what the words ask for; nothing where they aren't taken
+abbrev pub request : {Z : Type 0} → List (String Z) → Option Request
+request words = asked (texts words)
+
+-- an answer to taken words has its cause
+abbrev pub Because : {Z : Type 0} → List (String Z) → StoreView → StoreView → Status → Type 0
+Because words old new answer = IfSome (request words) (λ r. Cause answer r old new)
+
+-- the output has gained what the answer to a request says, and its count didn't fall
+pub record Outputs (answer : Status) (r : Request) (store : StoreView) (old new : SinkView) : Type 0 where
+  pub later : old.faults ≤ new.faults
+  pub text : Gained answer r store old new
+
+-- the output has gained what the answer to taken words says
+abbrev pub Reports : {Z : Type 0} → List (String Z) → StoreView → SinkView → SinkView → Status → Type 0
+Reports words store old new answer = IfSome (request words) (λ r. Outputs answer r store old new)
+
+-- where no read failed, a told text that isn't accepted is always answered by what it isn't accepted for
+abbrev pub ProgramAlways : {Z : Type 0} → List (String Z) → StoreView → StoreView → Status → Type 0
+ProgramAlways words old new answer = IfSome (request words) (λ r. (text : List ℕ) (f : ProgramFault)
+    → old.told r.program ≡ Some text → IsNoProgram f text → IsReadThrough r old new → IsOrNoMemory answer (status.Program f))
+
+-- where no read failed, told bytes that are refused, under a told program, are always answered by their first
+-- refusal
+abbrev pub CaptureAlways : {Z : Type 0} → List (String Z) → StoreView → StoreView → Status → Type 0
+CaptureAlways words old new answer = IfSome (request words) (λ r. (text bytes : List ℕ) (f : CaptureFault)
+    → old.told r.program ≡ Some text → old.told r.capture ≡ Some bytes → IsProgram text → IsNoCapture f bytes → IsReadThrough r old new → IsOrNoMemory answer (status.Capture f))
+
+-- where no read failed, a told program over a told capture is run to its end: no answer comes but Done, or
+-- WriteFault where a write failed
+abbrev pub IsComplete : {Z : Type 0} → List (String Z) → StoreView → StoreView → Status → Type 0
+IsComplete words old new answer = IfSome (request words) (λ r. (text bytes : List ℕ)
+    → old.told r.program ≡ Some text → old.told r.capture ≡ Some bytes → IsProgram text → IsSomeCapture bytes → IsReadThrough r old new
+    → answer ≢ status.WriteFault → IsOrNoMemory answer status.Done)
+
+-- no count of the store changed but those of the program and of the capture
+abbrev pub ReadsAsked : {Z : Type 0} → List (String Z) → StoreView → StoreView → Type 0
+ReadsAsked words old new = IfSome (request words) (λ r. (name : List ℕ) → name ≢ r.program → name ≢ r.capture → new.faults name ≡ old.faults name)
+
+-- nothing but the program was read where the answer is about it, and where the told text is no program
+pub record StopsAt (r : Request) (old new : StoreView) (answer : Status) : Type 0 where
+  pub answered : IsAboutProgram answer → ChangesOnly r.program old new
+  pub told : (text : List ℕ) → old.told r.program ≡ Some text → ¬ IsProgram text → ChangesOnly r.program old new
+
+-- a program that isn't accepted, or isn't read, means that the capture isn't read
+abbrev pub StopsAtProgram : {Z : Type 0} → List (String Z) → StoreView → StoreView → Status → Type 0
+StopsAtProgram words old new answer = IfSome (request words) (λ r. StopsAt r old new answer)
+
+-- a sink has gained what tells of this answer: a front of it where a write failed, and nothing for Done
+pub record Tells (answer : Status) (old new : SinkView) : Type 0 where
+  pub whole : ¬ Rose old.faults new.faults → new.taken ≡ gained (line answer) old.taken
+  pub front : TookFront old.taken new.taken (line answer)
+  pub later : old.faults ≤ new.faults
+  pub silent : answer ≡ status.Done → new.taken ≡ old.taken
+
+-- the laws of a call with these words: the store before and after, the output before and after, and the answer
+pub record Laws {Z : Type 0} (words : List (String Z)) (old new : StoreView) (before after : SinkView) (answer : Status) : Type 0 where
+  pub help : ComesWhere (AsksForHelp (texts words)) answer status.Help
+  pub refused : ComesWhere (IsRefused (texts words)) answer status.Words
+  pub because : Because words old new answer
+  pub reports : Reports words old before after answer
+  pub program : ProgramAlways words old new answer
+  pub capture : CaptureAlways words old new answer
+  pub complete : IsComplete words old new answer
+  pub kept : IsKept old new
+  pub names : ReadsAsked words old new
+  pub stops : StopsAtProgram words old new answer
