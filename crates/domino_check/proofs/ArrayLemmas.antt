@@ -1,5 +1,5 @@
 -- The arrays that are accessed are those that the sites touch.
-use Rattle.std.proofs.Common.{◌≡◌, ℕ, ◌==◌, Bool, true, false, ◌||◌, ℤ, List, [], ◌∷◌, ◌++◌, map, flat_map, Some, None, Option, refl, sym, ap, subst, ◌∙◌, append-nil, inl, inr, true≢false}
+use Rattle.std.proofs.Common.{◌≡◌, ℕ, ◌==◌, false, ◌||◌, ℤ, List, [], ◌∷◌, ◌++◌, map, flat_map, Some, None, Option, refl, sym, ap, subst, ◌∙◌, append-nil, inl, inr, true≢false}
 use Rattle.std.proofs.lemmas.Bool.Decides.{eqb_tells}
 use Rattle.std.specs.List.{list_any}
 use Rattle.std.proofs.lemmas.List.{map-append}

@@ -1,11 +1,12 @@
 -- The checks of the names, the calls and the sizes of a program. Most go over places in text order, and the
 -- first place at which something is amiss decides.
-use Rattle.std.specs.Prelude.{◌≡◌, ℕ, ℤ, pos, Bool, true, false, not, ◌||◌, if◌then◌else◌, IsTrue, nat_eq, nat_lt, int_lt, List, [], ◌∷◌, ◌++◌, length, map, sum, codes, Option, Some, None, is_some, is_none}
-use Rattle.std.specs.Str.{bytes_eq}
+use Rattle.std.specs.Prelude.{◌≡◌, ℕ, ℤ, pos, Bool, true, false, not, ◌||◌, if◌then◌else◌, IsTrue, nat_eq, nat_lt, int_lt, List, [], ◌∷◌, ◌++◌, length, map, sum, Option, Some, None, is_some, is_none}
 use Rattle.domino_tree.specs.declared.program.Item.{Item}
 use Rattle.domino_tree.specs.declared.program.Item.TheVariants as item
 use Rattle.domino_tree.specs.declared.program.Program.{Program}
-use Rattle.domino_tree.specs.Value.{Defined, Names, Array, names_of, size_value}
+use Rattle.mp5_words.specs.Words.{arity as arguments}
+use Rattle.mp5_words.specs.declared.hashing.HashKind.{HashKind}
+use Rattle.domino_tree.specs.Value.{Defined, Names, Array, names_of, size_value, hash_kind}
 use Rattle.domino_check.specs.declared.fault.What.{What}
 use Rattle.domino_check.specs.declared.fault.What.TheVariants as what
 use Rattle.domino_check.specs.declared.fault.CheckFault.{CheckFault}
@@ -96,9 +97,14 @@ NoWrongKind p = NoFault (WrongKindAt (kinds_in p)) (uses_of p)
 
 -- ---- calls
 
--- how many arguments a hash function takes
+-- how many arguments a function takes; no other name can be called
+abbrev pub arity_of : Option HashKind → ℕ
+arity_of None = 2
+arity_of (Some kind) = arguments kind
+
+-- how many arguments the hash function of a name takes
 abbrev pub arity : List ℕ → ℕ
-arity name = if bytes_eq name (codes "hash3") then 3 else 2
+arity name = arity_of (hash_kind name)
 
 -- it is a call with another number of arguments
 abbrev pub is_miscalled : List ℕ → Role → Bool

@@ -1,7 +1,8 @@
 -- The declared names of a program, and the kind that each is declared as. A name may be declared once in each
 -- class: the fields are a class, the struct's name is one of its own, and all others are the third.
-use Rattle.std.specs.Prelude.{ℕ, Bool, true, false, ◌&&◌, if◌then◌else◌, List, [], ◌∷◌, ◌++◌, map, codes, Option, Some, None}
+use Rattle.std.specs.Prelude.{ℕ, Bool, true, false, ◌&&◌, if◌then◌else◌, List, [], ◌∷◌, ◌++◌, map, Option, Some, None}
 use Rattle.std.specs.Str.{bytes_eq}
+use Rattle.domino_tree.specs.Value.{hash_name, hash_kinds}
 use Rattle.domino_tree.specs.declared.program.Size.{Size}
 use Rattle.domino_tree.specs.declared.program.Item.{Item}
 use Rattle.domino_tree.specs.declared.program.Item.TheVariants as item
@@ -51,7 +52,7 @@ all_as k names = map (λ (name : List ℕ). record { name = name; kind = k }) na
 
 -- the hash functions are declared before the text
 abbrev pub hash_names : List (List ℕ)
-hash_names = codes "hash2" ∷ codes "hash2a" ∷ codes "hash2b" ∷ codes "hash3" ∷ []
+hash_names = map hash_name hash_kinds
 
 abbrev pub hash_declarations : List Declaration
 hash_declarations = all_as kind.Hash hash_names

@@ -5,8 +5,9 @@ ghost use Rattle.domino_check.specs.Declarations.{Declaration, kind_in, class_of
 ghost use Rattle.domino_check.specs.KindTable.{kind_at, Holds};
 
 use crate::role::{Class, Kind};
+use domino_tree::hash_name;
 use indexmap::IndexMap;
-use mp5_words::Name;
+use mp5_words::{HashKind, Name};
 use std::alloc::{AllocError, Global};
 
 /// The kinds of names.
@@ -37,10 +38,14 @@ pub(crate) fn hash_kinds<'a>(alloc: Global) -> Result<Kinds<'a>, AllocError>
     ensures { IfOk result (λ kinds. Holds kinds hash_declarations) }
 {
     let mut kinds = IndexMap::new(alloc);
-    declare(&mut kinds, "hash2".as_bytes(), Kind::Hash)?;
-    declare(&mut kinds, "hash2a".as_bytes(), Kind::Hash)?;
-    declare(&mut kinds, "hash2b".as_bytes(), Kind::Hash)?;
-    declare(&mut kinds, "hash3".as_bytes(), Kind::Hash)?;
+    declare(&mut kinds, hash_name(HashKind::Two).as_bytes(), Kind::Hash)?;
+    declare(&mut kinds, hash_name(HashKind::TwoA).as_bytes(), Kind::Hash)?;
+    declare(&mut kinds, hash_name(HashKind::TwoB).as_bytes(), Kind::Hash)?;
+    declare(
+        &mut kinds,
+        hash_name(HashKind::Three).as_bytes(),
+        Kind::Hash,
+    )?;
     Ok(kinds)
 }
 

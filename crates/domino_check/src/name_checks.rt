@@ -12,6 +12,7 @@ use crate::fault::CheckFault;
 use crate::kind_table::{Kinds, copy_name, declare, hash_kinds, kind_of};
 use crate::role::{Kind, Role};
 use crate::uses::Use;
+use domino_tree::hash_kind;
 use mp5_words::Name;
 use std::alloc::Global;
 
@@ -85,14 +86,13 @@ pub(crate) fn check_kinds(
     Ok(())
 }
 
-// How many arguments a hash function takes.
+// How many arguments the hash function of a name takes.
 fn arity(name: &Name) -> usize
     ensures { result ≡ arity name.now }
 {
-    if name.bytes() == "hash3".as_bytes() {
-        3
-    } else {
-        2
+    match hash_kind(name) {
+        Some(kind) => kind.arity(),
+        None => 2,
     }
 }
 

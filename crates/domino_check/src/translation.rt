@@ -1,11 +1,11 @@
 //! The body of a program in numbers.
 ghost use Rattle.std.specs.Prelude.{◌≡◌, ◌++◌, ◌∷◌, [], IfOk, OnOk, None, map, flat_map};
-ghost use Rattle.domino_tree.specs.Value.{hash_kind, number_of, array_number};
+ghost use Rattle.domino_tree.specs.Value.{number_of, array_number};
 ghost use Rattle.domino_check.specs.Numbering.{in_numbers, numbered, accesses_in, access_at, register_at, numbered_word, called, numbered_set, target_accesses, numbered_stmt, numbered_arm, in_turn, stmt_accesses, arm_accesses, block_accesses, Numbered};
 
 use crate::numbered::{CheckedArm, CheckedExpr, CheckedStmt};
 use crate::scope::Scope;
-use domino_tree::{Arm, Expr, Stmt, Target};
+use domino_tree::{Arm, Expr, Stmt, Target, hash_kind};
 use mp5_words::{HashKind, Name};
 use sqlite_items::{Boxed, Items};
 use std::alloc::{AllocError, Global};
@@ -38,24 +38,6 @@ impl Access {
     {
         let Access { array, index } = self;
         (array, index)
-    }
-}
-
-// The hash function of a name, where it is one.
-fn hash_kind(name: &Name) -> Option<HashKind>
-    ensures { result ≡ hash_kind name.now }
-{
-    let bytes = name.bytes();
-    if bytes == b"hash2".as_slice() {
-        Some(HashKind::Two)
-    } else if bytes == b"hash2a".as_slice() {
-        Some(HashKind::TwoA)
-    } else if bytes == b"hash2b".as_slice() {
-        Some(HashKind::TwoB)
-    } else if bytes == b"hash3".as_slice() {
-        Some(HashKind::Three)
-    } else {
-        None
     }
 }
 

@@ -1,6 +1,6 @@
 -- The value of an expression, with the fields of a packet and the cells of the registers.
 use Rattle.std.specs.Prelude.{◌≡◌, length, ℕ, suc, ℤ, pos, if◌then◌else◌, List, [], ◌∷◌, ◌++◌, map, flat_map, codes, Option, Some, None}
-use Rattle.std.specs.List.{slice_index_or}
+use Rattle.std.specs.List.{find, slice_index_or}
 use Rattle.std.specs.Str.{bytes_eq}
 use Rattle.mp5_words.specs.Words.{op1, op2, cell}
 use Rattle.mp5_words.specs.Cells.{word_at, cells_at, natural, picked, hash_all}
@@ -129,13 +129,20 @@ abbrev pub defined_or : Option ℤ → ℤ → ℤ
 defined_or None z = z
 defined_or (Some n) z = n
 
+-- the table of hash functions: the name of each; how many arguments it takes is its arity
+abbrev pub hash_name : HashKind → List ℕ
+hash_name Two = codes "hash2"
+hash_name TwoA = codes "hash2a"
+hash_name TwoB = codes "hash2b"
+hash_name Three = codes "hash3"
+
+-- all of them
+abbrev pub hash_kinds : List HashKind
+hash_kinds = Two ∷ TwoA ∷ TwoB ∷ Three ∷ []
+
 -- the hash function of a name, where it is one
 abbrev pub hash_kind : List ℕ → Option HashKind
-hash_kind name =
-    if bytes_eq name (codes "hash2") then Some Two else (
-    if bytes_eq name (codes "hash2a") then Some TwoA else (
-    if bytes_eq name (codes "hash2b") then Some TwoB else (
-    if bytes_eq name (codes "hash3") then Some Three else None)))
+hash_kind name = find (λ kind. bytes_eq name (hash_name kind)) hash_kinds
 
 -- the hash of the arguments; 0 where the name is no hash function's
 abbrev pub hashed : Option HashKind → List ℤ → ℤ

@@ -8,12 +8,14 @@
 #![tactic(auto)]
 
 mod expr;
+mod hashes;
 mod operators;
 mod printing;
 mod program;
 mod token;
 
 pub use expr::Expr;
+pub use hashes::{HASH_KINDS, hash_kind, hash_name};
 pub use operators::{SIGNS, level, operator_before, operator_between, sign_before, sign_between};
 pub use printing::print;
 pub use program::{Arm, Function, Item, PacketDecl, Program, Size, Start, Stmt, Target};
