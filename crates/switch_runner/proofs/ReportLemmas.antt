@@ -1,14 +1,16 @@
 -- The text from a field or a register on.
-use Rattle.std.proofs.Common.{◌≡◌, ◌∙◌, ◌<◌, ◌≤◌, ◌+◌, ◌-◌, ◌*◌, take, arith, ℕ, zero, suc, ℤ, pos, List, [], ◌∷◌, ◌++◌, length, map, drop, get_or, Some, refl, sym, ap, add-one, drop-cons}
+use Rattle.std.proofs.Common.{◌≡◌, ◌∙◌, ◌<◌, ◌≤◌, ◌+◌, ◌-◌, ◌*◌, take, arith, ℕ, zero, suc, ℤ, pos, List, [], ◌∷◌, ◌++◌, length, map, drop, get_or, slice_index, Some, refl, sym, ap, add-one, drop-cons}
 use Rattle.std.specs.Fmt.{signed_decimal}
 use Rattle.std.specs.List.{slice_get}
 use Rattle.std.proofs.lemmas.Option.{get_or_from_slice_get}
 use Rattle.capture_io.specs.Rows.{rows}
 use Rattle.std.proofs.lemmas.Grind.{flat_map-append}
-use Rattle.std.proofs.lemmas.List.{append-nil, length-map, map-append, take_more, drop_more}
+use Rattle.std.proofs.lemmas.List.{append-nil, get_or-map, length-map, map-append, take_more, drop_more}
 use Rattle.mp5_words.specs.Cells.{word_at, cells_at}
+use Rattle.domino_tree.specs.declared.program.Program.{Program}
+use Rattle.domino_tree.specs.Value.{Array, names_of, cell_counts}
 use Rattle.domino_check.specs.declared.numbered.ArrayInfo.{ArrayInfo}
-use Rattle.switch_runner.specs.Report.{label, fields_text, packet_line, packet_lines, cell_line, cell_lines, register_lines, HasCells, done_line, run_text, text_of}
+use Rattle.switch_runner.specs.Report.{label, fields_text, packet_line, packet_lines, cell_line, cell_lines, register_lines, AreDeclared, HasCells, done_line, run_text, text_of}
 
 both : {A B C : Type 0} (f : A → B → C) (a a' : A) (b b' : B) → a ≡ a' → b ≡ b' → f a b ≡ f a' b'
 both f a a' b b' p q = ap (λ x. f x b) p ∙ ap (f a') q
@@ -71,6 +73,17 @@ cells_of_array [] cells a info h e has = absurd (omega arith)
 -- there are as many arrays as are declared
 pub count_of_arrays : (infos : List ArrayInfo) (cells : List (List ℤ)) → HasCells infos cells → length cells ≡ length infos
 count_of_arrays infos cells has = sym (length-map cells (λ (c : List ℤ). length c)) ∙ ap length has ∙ length-map infos (λ (i : ArrayInfo). i.length)
+
+-- there are as many arrays as the program declares
+pub count_of_declared : (p : Program) (infos : List ArrayInfo) → AreDeclared p infos → length (names_of p).arrays ≡ length infos
+count_of_declared p infos are = sym (length-map (names_of p).arrays (λ (d : Array). d.length)) ∙ ap length are ∙ length-map infos (λ (i : ArrayInfo). i.length)
+
+-- an array has as many cells as it is declared with
+pub declared_cells : (p : Program) (infos : List ArrayInfo) (a : ℕ) (info : ArrayInfo) → a < length infos → info ≡ get_or infos a info → AreDeclared p infos → slice_index (cell_counts (names_of p)) a ≡ info.length
+declared_cells p infos a info h e are =
+    ap (λ l. slice_index l a) are
+    ∙ get_or-map (λ (i : ArrayInfo). i.length) infos a info 0 h
+    ∙ ap (λ (i : ArrayInfo). i.length) (sym e)
 
 -- one row, and the rows after it
 pub rows_from : (count t width : ℕ) (words : List ℤ) → t < count → rows (count - t) width words ≡ take width words ∷ rows (count - (t + 1)) width (drop width words)

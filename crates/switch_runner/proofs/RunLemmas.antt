@@ -164,6 +164,7 @@ pub run_end : (program : Program) (bench : Held) (headers : List (List ℤ)) (co
 run_end program bench headers count width initial words after begins wide e is packets cells =
     let back : rows count width initial ≡ headers = ap (λ (n : ℕ). rows n width initial) e ∙ ap (rows (length headers) width) is ∙ rows_back width headers wide in
     record {
+      of = ap (λ (b : Held). b.program) cells ∙ ap (λ (b : Held). b.program) begins;
       packets =
           packets
           ∙ ap (λ (l : List (List ℤ)). flat_map (λ (p : List ℤ). p) (run_bench bench l).packets) back

@@ -11,9 +11,11 @@ use Rattle.capture_io.specs.Rows.{rows}
 use Rattle.domino_tree.specs.declared.program.Program.{Program}
 use Rattle.domino_tree.specs.Sequential.{one}
 use Rattle.domino_check.specs.declared.numbered.ArrayInfo.{ArrayInfo}
-use Rattle.domino_check.specs.Infos.{infos_of}
+use Rattle.domino_check.specs.Infos.{infos_of, array_of}
+use Rattle.domino_check.proofs.CheckedLemmas.{infos_are}
+use Rattle.domino_tree.specs.Value.{Array, names_of, cell_counts}
 use Rattle.switch_runner.specs.Causes.{IsAccepted}
-use Rattle.switch_runner.specs.Report.{label, HasCells, run_text, report}
+use Rattle.switch_runner.specs.Report.{label, AreDeclared, HasCells, run_text, report}
 use Rattle.switch_runner.proofs.Lengths.{one-packets, one-cells}
 use Rattle.domino_syntax.specs.ProgramText.{IsProgramText}
 use Rattle.switch_runner.specs.Top.{AreWide}
@@ -62,6 +64,18 @@ words_length p hs labels count words w e l packets =
 -- each array has its cells at the end of a run
 pub has_cells : (p : Program) (hs : List (List ℤ)) (infos : List ArrayInfo) (cells : List (List ℤ)) → infos ≡ infos_of p → cells ≡ (one p hs).cells → HasCells infos cells
 has_cells p hs infos cells i at_end = subst (λ (l : List ArrayInfo). HasCells l cells) (sym i) (subst (HasCells (infos_of p)) (sym at_end) (one-cells p hs))
+
+counts_are : (infos : List ArrayInfo) → map (λ (d : Array). d.length) (map array_of infos) ≡ map (λ (i : ArrayInfo). i.length) infos
+counts_are [] = refl
+counts_are (i ∷ infos) = ap (λ l. i.length ∷ l) (counts_are infos)
+
+-- the arrays have as many cells as the bench's program declares
+pub declared : (p q : Program) (infos : List ArrayInfo) → q ≡ p → infos ≡ infos_of p → AreDeclared q infos
+declared p q infos same i =
+    ap (λ p. cell_counts (names_of p)) same
+    ∙ ap (λ (l : List Array). map (λ (d : Array). d.length) l) (sym (infos_are p))
+    ∙ counts_are (infos_of p)
+    ∙ ap (λ (l : List ArrayInfo). map (λ (i : ArrayInfo). i.length) l) (sym i)
 
 -- what stands at the end of a run is told as its report
 pub text_is : (p : Program) (hs : List (List ℤ)) (labels : List (List ℕ)) (infos : List ArrayInfo) (count : ℕ) (words : List ℤ) (cells : List (List ℤ)) → AreWide (length p.packet.fields) hs

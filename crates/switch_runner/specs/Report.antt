@@ -4,6 +4,7 @@ use Rattle.std.specs.Fmt.{signed_decimal}
 use Rattle.std.specs.List.{flat_map}
 use Rattle.std.specs.Ordering.{int_eq}
 use Rattle.domino_tree.specs.declared.program.Program.{Program}
+use Rattle.domino_tree.specs.Value.{names_of, cell_counts}
 use Rattle.domino_tree.specs.Sequential.{one}
 use Rattle.domino_check.specs.declared.numbered.ArrayInfo.{ArrayInfo}
 use Rattle.domino_check.specs.Infos.{infos_of}
@@ -53,6 +54,10 @@ abbrev pub register_lines : List ArrayInfo → List (List ℤ) → List (List �
 register_lines [] cells = []
 register_lines (i ∷ infos) [] = []
 register_lines (i ∷ infos) (c ∷ cells) = cell_lines i 0 c ++ register_lines infos cells
+
+-- the arrays have as many cells as the program declares
+abbrev pub AreDeclared : Program → List ArrayInfo → Type 0
+AreDeclared p infos = cell_counts (names_of p) ≡ map (λ (i : ArrayInfo). i.length) infos
 
 -- each array has as many cells as it is declared with
 abbrev pub HasCells : List ArrayInfo → List (List ℤ) → Type 0

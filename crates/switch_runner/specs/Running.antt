@@ -10,7 +10,9 @@ use Rattle.domino_eval.specs.Parts.{Held}
 abbrev pub run_bench : Held → List (List ℤ) → Outcome
 run_bench bench headers = run_from (names_of bench.program) bench.program.function.body bench.cells headers
 
--- the packets of the program's sequential run, one after another in one list of words, and its cells at the end
+-- the bench is the program's; the packets of the program's sequential run, one after another in one list of words,
+-- and its cells at the end
 pub record IsEnd (program : Program) (headers : List (List ℤ)) (words : List ℤ) (bench : Held) : Type 0 where
+  pub of : bench.program ≡ program
   pub packets : words ≡ flat_map (λ p. p) (one program headers).packets
   pub cells : bench.cells ≡ (one program headers).cells

@@ -1,12 +1,13 @@
 //! The report of a run, written through a block.
-ghost use Rattle.std.specs.Prelude.{◌≡◌, ◌<◌, ◌≤◌, ◌*◌, ◌++◌, ◌∷◌, [], ℕ, length, codes, decimal, OnOk, OnErr};
+ghost use Rattle.std.specs.Prelude.{◌≡◌, ◌<◌, ◌≤◌, ◌*◌, ◌++◌, ◌∷◌, [], ℕ, length, codes, decimal, OnOk, OnErr, slice_index};
 ghost use Rattle.std.specs.Fmt.{signed_decimal};
 ghost use Rattle.std.specs.List.{flat_map};
 ghost use Rattle.capture_io.specs.Rows.{rows};
 ghost use Rattle.mp5_words.specs.Cells.{cells_at};
 ghost use Rattle.switch_runner.specs.Outside.{Grew, Stopped};
+ghost use Rattle.domino_tree.specs.Value.{names_of, cell_counts};
 ghost use Rattle.switch_runner.specs.Writing.{Puts, at};
-ghost use Rattle.switch_runner.specs.Report.{fields_text, packet_line, packet_lines, register_line, cell_line, cell_lines, register_lines, HasCells, done_line, run_text, text_of};
+ghost use Rattle.switch_runner.specs.Report.{fields_text, packet_line, packet_lines, register_line, cell_line, cell_lines, register_lines, AreDeclared, HasCells, done_line, run_text, text_of};
 
 use crate::block::Block;
 use crate::outside::{Failed, Sink};
@@ -189,7 +190,8 @@ fn put_cells<K: Sink>(
     bench: &Bench<'_>,
     array: u32,
 ) -> Result<(), Failed>
-    requires array { array < length bench.now.cells }
+    requires array { array < length (names_of bench.now.program).arrays }
+    requires declared { slice_index (cell_counts (names_of bench.now.program)) array ≡ info.now.length }
     requires cells { length (cells_at bench.now.cells array) ≡ info.now.length }
     ensures { Puts (text_of (cell_lines info.now 0 (cells_at bench.now.cells array)))
         (at block.old (K.seen out.old)) (at block.new (K.seen out.new)) result }
@@ -211,6 +213,7 @@ fn put_arrays<K: Sink>(
     bench: &Bench<'_>,
 ) -> Result<(), Failed>
     requires few { length infos.now ≤ 16 }
+    requires declared { AreDeclared bench.now.program infos.now }
     requires cells { HasCells infos.now bench.now.cells }
     ensures { Puts (text_of (register_lines infos.now bench.now.cells))
         (at block.old (K.seen out.old)) (at block.new (K.seen out.new)) result }
@@ -249,6 +252,7 @@ fn put_report<K: Sink>(
 ) -> Result<(), Failed>
     requires packets { length packets.now ≡ count * length labels.now }
     requires few { length infos.now ≤ 16 }
+    requires declared { AreDeclared bench.now.program infos.now }
     requires cells { HasCells infos.now bench.now.cells }
     ensures { Puts (run_text labels.now infos.now (rows count (length labels.now) packets.now) bench.now.cells count)
         (at block.old (K.seen out.old)) (at block.new (K.seen out.new)) result }
@@ -273,6 +277,7 @@ pub(crate) fn write_report<K: Sink>(
     requires empty { block ≡ [] }
     requires packets { length packets.now ≡ count * length labels.now }
     requires few { length infos.now ≤ 16 }
+    requires declared { AreDeclared bench.now.program infos.now }
     requires cells { HasCells infos.now bench.now.cells }
     ensures ok { OnOk result (Grew (run_text labels.now infos.now (rows count (length labels.now) packets.now)
         bench.now.cells count) (K.seen out.old) (K.seen out.new)) }

@@ -7,6 +7,9 @@ use Rattle.switch_runner.proofs.report.put_cells.Goals as goal
 pub loop-i-init : goal.loop-i-init
 loop-i-init g c = goes_start _ _
 
+pub cell-requires-clause-cell : goal.cell-requires-clause-cell
+cell-requires-clause-cell g c = omega (arith, c.requires.declared, c.loop-i-test.true)
+
 pub returns-in-Err : goal.returns-in-Err
 returns-in-Err g c =
     let fits : FitsSigned w32 c.cell.result = search rules in

@@ -1,7 +1,7 @@
 use Rattle.std.proofs.Common.{◌∙◌, List, ℕ, map, ap, subst}
 use Rattle.switch_runner.specs.Outside.{Grew, Stopped}
 use Rattle.switch_runner.specs.Report.{label}
-use Rattle.switch_runner.proofs.TopLemmas.{words_length, has_cells, text_is}
+use Rattle.switch_runner.proofs.TopLemmas.{words_length, has_cells, declared, text_is}
 use Rattle.switch_runner.proofs.top.run_in_order.Goals as goal
 
 pub write_report-requires-clause-packets : goal.write_report-requires-clause-packets
@@ -10,6 +10,9 @@ write_report-requires-clause-packets g c =
 
 pub write_report-requires-clause-cells : goal.write_report-requires-clause-cells
 write_report-requires-clause-cells g c = has_cells c.args.checked.now c.args.headers c.arrays.result.now c.in-Ok.end.bench.cells c.arrays.ensures.arrays c.in-Ok.ensures.end.cells
+
+pub write_report-requires-clause-declared : goal.write_report-requires-clause-declared
+write_report-requires-clause-declared g c = declared c.args.checked.now c.in-Ok.end.bench.program c.arrays.result.now c.in-Ok.ensures.end.of c.arrays.ensures.arrays
 
 pub returns-in-Ok-write_report : goal.returns-in-Ok-write_report
 returns-in-Ok-write_report g c =
