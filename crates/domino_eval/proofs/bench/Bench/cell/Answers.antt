@@ -1,4 +1,4 @@
-use Rattle.std.proofs.Common.{◌≡◌, ◌<◌, length, get_or, pos, w32, FitsSigned, ap, subst, ◌∙◌, arith, rules}
+use Rattle.std.proofs.Common.{◌<◌, length, get_or, pos, w32, FitsSigned, ap, subst, ◌∙◌, arith, rules}
 use Rattle.std.proofs.lemmas.Int.{to_z-of_z}
 use Rattle.mp5_words.specs.Cells.{cells_at}
 use Rattle.domino_tree.specs.Value.{names_of, HasCells}
