@@ -9,3 +9,4 @@ pub mod CauseLemmas
 pub mod OneFault
 pub mod CommandLemmas
 pub mod LawLemmas
+pub mod FaultLemmas

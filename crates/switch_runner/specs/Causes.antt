@@ -1,15 +1,20 @@
 -- The causes of each answer to a request, and what tells of it.
-use Rattle.std.specs.Prelude.{◌≡◌, ◌≢◌, ◌⊎◌, ℕ, ℤ, Bool, true, false, List, [], take, codes, IfSome}
+use Rattle.std.specs.Prelude.{◌≡◌, ◌≢◌, ◌⊎◌, ◌+◌, ℕ, ℤ, Bool, true, false, List, [], take, codes, IfSome}
 use Rattle.capture_io.specs.declared.fault.CaptureFault.{CaptureFault}
 use Rattle.capture_io.specs.declared.fault.CaptureFault.TheVariants as capture
 use Rattle.capture_io.specs.ClassicCapture.{Record, IsCapture}
 use Rattle.capture_io.specs.Header.{headers}
 use Rattle.capture_io.specs.Refusal.{Refuses}
 use Rattle.domino_tree.specs.declared.program.Program.{Program}
+use Rattle.domino_syntax.specs.declared.fault.TextFault.{TextFault}
 use Rattle.domino_syntax.specs.declared.fault.TextFault.TheVariants as text_fault
 use Rattle.domino_syntax.specs.ProgramText.{IsProgramText, Refuses as RefusesText}
+use Rattle.domino_check.specs.declared.fault.CheckFault.{CheckFault}
 use Rattle.domino_check.specs.declared.fault.CheckFault.TheVariants as check_fault
 use Rattle.domino_check.specs.Refused.{Passes, Refused}
+use Rattle.switch_runner.specs.declared.limits.TheConstants.{MAX_TEXT, MAX_CAPTURE}
+use Rattle.switch_runner.specs.declared.outside.StoreFault.{StoreFault}
+use Rattle.switch_runner.specs.declared.outside.StoreFault.TheVariants as store
 use Rattle.switch_runner.specs.declared.status.ProgramFault.{ProgramFault}
 use Rattle.switch_runner.specs.declared.status.ProgramFault.TheVariants as program
 use Rattle.switch_runner.specs.declared.status.Status.{Status}
@@ -39,6 +44,31 @@ lacks_memory (program.Check check_fault.NoMemory) = true
 lacks_memory (program.Check f) = false
 lacks_memory program.NoMemory = true
 
+-- the refusal of a text as a fault of a program: want of memory is one fault, of whichever part
+abbrev pub of_text : TextFault → ProgramFault
+of_text text_fault.NoMemory = program.NoMemory
+of_text f = program.Text f
+
+-- the refusal of a program that is read, as a fault of a program
+abbrev pub of_check : CheckFault → ProgramFault
+of_check check_fault.NoMemory = program.NoMemory
+of_check f = program.Check f
+
+-- a fault of a program as an answer
+abbrev pub answer_of_program : ProgramFault → Status
+answer_of_program program.NoMemory = status.NoMemory
+answer_of_program f = status.Program f
+
+-- a fault of a capture as an answer
+abbrev pub answer_of_capture : CaptureFault → Status
+answer_of_capture capture.NoMemory = status.NoMemory
+answer_of_capture f = status.Capture f
+
+-- the answer to a read that gave nothing
+abbrev pub answer_of_store : StoreFault → Status
+answer_of_store store.Failed = status.ReadFault
+answer_of_store store.NoMemory = status.NoMemory
+
 -- the text isn't accepted for this: it isn't read, or it is read to a program that the checks refuse
 abbrev pub IsUnaccepted : ProgramFault → List ℕ → Type 0
 IsUnaccepted (program.Text f) text = RefusesText text f
@@ -48,7 +78,7 @@ IsUnaccepted program.NoMemory text = ⊥
 -- the told text isn't accepted for this; it is read to at most one byte past the limit of 65536, so that a
 -- longer one is too long with 65537 bytes
 abbrev pub IsNoProgram : ProgramFault → List ℕ → Type 0
-IsNoProgram f text = IsUnaccepted f (take 65537 text)
+IsNoProgram f text = IsUnaccepted f (take (MAX_TEXT + 1) text)
 
 -- the told bytes are a capture of some records
 abbrev pub IsSomeCapture : List ℕ → Type 0
@@ -57,7 +87,7 @@ IsSomeCapture bytes = (records : List Record) × IsCapture bytes records
 -- the told bytes are refused as a capture for this, and for nothing before it; they are read to at most one
 -- byte past the limit of 134217728, so that longer ones are too long with 134217729 bytes
 abbrev pub IsNoCapture : CaptureFault → List ℕ → Type 0
-IsNoCapture f bytes = Refuses (take 134217729 bytes) f
+IsNoCapture f bytes = Refuses (take (MAX_CAPTURE + 1) bytes) f
 
 -- what is told of the two files can be run: a text that is accepted as a program, and bytes that are a capture
 pub record IsRunnable (r : Request) (store : StoreView) : Type 0 where

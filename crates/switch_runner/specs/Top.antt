@@ -1,13 +1,12 @@
 -- The steps of the top call, one by one.
-use Rattle.std.specs.Prelude.{◌≡◌, ◌≢◌, Bool, true, false, ℕ, ℤ, List, [], ◌∷◌, length, IfSome}
-use Rattle.capture_io.specs.declared.fault.CaptureFault.{CaptureFault}
+use Rattle.std.specs.Prelude.{◌≡◌, ◌≢◌, false, ℕ, ℤ, List, [], ◌∷◌, length, IfSome}
 use Rattle.capture_io.specs.declared.fault.CaptureFault.TheVariants as capture
-use Rattle.switch_runner.specs.declared.outside.StoreFault.{StoreFault}
-use Rattle.switch_runner.specs.declared.outside.StoreFault.TheVariants as store
+use Rattle.switch_runner.specs.declared.status.ProgramFault.{ProgramFault}
+use Rattle.switch_runner.specs.declared.status.ProgramFault.TheVariants as program
 use Rattle.switch_runner.specs.declared.status.Status.{Status}
 use Rattle.switch_runner.specs.declared.status.Status.TheVariants as status
 use Rattle.switch_runner.specs.CommandLine.{Request}
-use Rattle.switch_runner.specs.Causes.{Cause, RoseFor, lacks_memory, IsNoProgram, IsNoCapture}
+use Rattle.switch_runner.specs.Causes.{Cause, RoseFor, lacks_memory, IsUnaccepted, IsNoProgram, IsNoCapture}
 use Rattle.switch_runner.specs.Laws.{Outputs, StopsAt}
 use Rattle.switch_runner.specs.Outside.{StoreView, SinkView, IsKept, Grew, Stopped}
 
@@ -15,6 +14,11 @@ use Rattle.switch_runner.specs.Outside.{StoreView, SinkView, IsKept, Grew, Stopp
 abbrev pub AreWide : ℕ → List (List ℤ) → Type 0
 AreWide width [] = Unit {0}
 AreWide width (p ∷ ps) = (length p ≡ width) × AreWide width ps
+
+-- why a text isn't accepted, which may be want of memory
+abbrev pub NotAccepted : List ℕ → ProgramFault → Type 0
+NotAccepted text program.NoMemory = Unit {0}
+NotAccepted text f = (lacks_memory f ≡ false) × IsUnaccepted f text
 
 -- why no program was read of this name
 abbrev pub NoSource : List ℕ → StoreView → StoreView → Status → Type 0
@@ -44,13 +48,3 @@ pub record Serves (r : Request) (old new : StoreView) (before after : SinkView) 
   pub kept : IsKept old new
   pub others : (name : List ℕ) → name ≢ r.program → name ≢ r.capture → new.faults name ≡ old.faults name
   pub stops : StopsAt r old new answer
-
--- the fault is want of memory
-abbrev pub is_no_memory : CaptureFault → Bool
-is_no_memory capture.NoMemory = true
-is_no_memory f = false
-
--- the answer to a read that gave nothing
-abbrev pub read_status : StoreFault → Status
-read_status store.Failed = status.ReadFault
-read_status store.NoMemory = status.NoMemory

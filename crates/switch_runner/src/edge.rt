@@ -1,10 +1,11 @@
 //! The real outside: files by their names, and the two standard streams. Both are proved against their
 //! traits, and tell nothing of what they read or wrote.
-ghost use Rattle.std.specs.Prelude.{◌≡◌, ◌<◌, ◌≤◌, ℕ, List, length, take, IfOk, OnOk, OnErr, Some, is_some, true};
+ghost use Rattle.std.specs.Prelude.{◌≡◌, ◌<◌, ◌≤◌, ◌+◌, ℕ, List, length, take, IfOk, OnOk, OnErr, Some, is_some, true};
 ghost use Rattle.std.specs.List.{position};
 ghost use Rattle.switch_runner.specs.Faults.{Reads};
 ghost use Rattle.switch_runner.specs.Outside.{Grew, Stopped};
 ghost use Rattle.switch_runner.specs.Memory.{named, faults_of, counts_seen, untold_seen};
+ghost use Rattle.switch_runner.specs.declared.limits.TheConstants.{MAX_CAPTURE};
 
 use crate::memory::{NamedBytes, place_of};
 use crate::outside::{Failed, Sink, Store, StoreFault};
@@ -50,7 +51,7 @@ impl<R: Files + AllocGlobal> Store for FileStore<R> {
 
     // A count rises only where the read of its name fails.
     fn read_at(&mut self, name: &str, at: u64, into: &mut [u8]) -> Result<usize, StoreFault>
-        requires { at ≤ 134217729 }
+        requires { at ≤ MAX_CAPTURE + 1 }
         ensures within { IfOk result (λ n. n ≤ length into.new) }
         ensures reads { Reads name.now (counts_seen self.old.names.items)
             (counts_seen self.new.names.items) result }
@@ -58,10 +59,7 @@ impl<R: Files + AllocGlobal> Store for FileStore<R> {
             (faults_of self.new.names.items name.now ≡ faults_of self.old.names.items name.now) }
         ensures listed { OnOk result (is_some (position (named name.now) self.new.names.items) ≡ true) }
     {
-        let place = match listed(self.rt.alloc(), &mut self.names, name) {
-            Ok(place) => place,
-            Err(AllocError) => return Err(StoreFault::NoMemory),
-        };
+        let place = listed(self.rt.alloc(), &mut self.names, name)?;
         match read_piece(&self.rt, &mut self.last, place, name, at, into) {
             Ok(count) => Ok(count),
             Err(_) => {

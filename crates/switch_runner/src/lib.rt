@@ -11,6 +11,7 @@ mod edge;
 mod fabric;
 mod help;
 mod labels;
+mod limits;
 mod line;
 mod memory;
 mod outside;
@@ -22,6 +23,7 @@ mod transfer;
 
 pub use edge::{FileStore, OutSink};
 pub use fabric::{Fabric, NoFabric};
+pub use limits::{MAX_CAPTURE, MAX_TEXT};
 pub use memory::{MemorySink, MemoryStore, NamedBytes, SureSink, SureStore};
 pub use outside::{Failed, Sink, Store, StoreFault};
 pub use status::{ProgramFault, Status};

@@ -4,6 +4,7 @@ ghost use Rattle.std.specs.List.{position, list_any};
 ghost use Rattle.switch_runner.specs.Outside.{ReadsPiece, Grew, Stopped};
 ghost use Rattle.switch_runner.specs.Faults.{Reads};
 ghost use Rattle.switch_runner.specs.Memory.{NamedFile, named, file_of, faults_of, files_seen, sure_seen, untold_seen, Shelf, Basin, basin_seen, next, answer_of, reads_after, poured, refused};
+ghost use Rattle.switch_runner.specs.declared.limits.TheConstants.{MAX_CAPTURE};
 
 use crate::outside::{Failed, Sink, Store, StoreFault};
 use mp5_words::Name;
@@ -119,7 +120,7 @@ impl Store for MemoryStore {
     ghost seen = { λ store. files_seen store.files };
 
     fn read_at(&mut self, name: &str, at: u64, into: &mut [u8]) -> Result<usize, StoreFault>
-        requires { at ≤ 134217729 }
+        requires { at ≤ MAX_CAPTURE + 1 }
         ensures piece { IfOk result
             (λ n. ReadsPiece (file_of self.old.files name.now).bytes at n into.new) }
         ensures reads { Reads name.now (files_seen self.old.files) (files_seen self.new.files) result }
@@ -246,7 +247,7 @@ impl Store for SureStore {
     ghost seen = { λ store. sure_seen store };
 
     fn read_at(&mut self, name: &str, at: u64, into: &mut [u8]) -> Result<usize, StoreFault>
-        requires { at ≤ 134217729 }
+        requires { at ≤ MAX_CAPTURE + 1 }
         ensures same { self.new ≡ self.old }
         ensures piece { IfOk result
             (λ n. ReadsPiece (file_of self.old name.now).bytes at n into.new) }

@@ -1,6 +1,9 @@
-ghost use Rattle.std.specs.Prelude.{◌≤◌, ◌<◌, length, take, IfOk, IfSome, OnErr};
+ghost use Rattle.std.specs.Prelude.{◌≡◌, ◌≤◌, ◌<◌, ◌+◌, length, take, IfOk, IfSome, OnErr};
 ghost use Rattle.switch_runner.specs.Outside.{StoreView, SinkView, ReadsPiece, Grew, Stopped};
 ghost use Rattle.switch_runner.specs.Faults.{Reads};
+ghost use Rattle.switch_runner.specs.declared.limits.TheConstants.{MAX_CAPTURE};
+
+use std::alloc::AllocError;
 
 /// A write that failed.
 #[derive(Clone, Copy, Debug, PartialEq, Eq)]
@@ -15,6 +18,16 @@ pub enum StoreFault {
     NoMemory,
 }
 
+impl From<AllocError> for StoreFault {
+    ghost use Rattle.switch_runner.specs.declared.outside.StoreFault.TheVariants.{NoMemory};
+
+    ghost from_gives = { λ _ e. e ≡ NoMemory };
+
+    fn from(_error: AllocError) -> StoreFault {
+        StoreFault::NoMemory
+    }
+}
+
 /// Named byte lists that can be read. Of a store are seen, for each name, its bytes, where it tells them,
 /// and a count of faults.
 pub trait Store {
@@ -23,7 +36,7 @@ pub trait Store {
     /// Reads bytes of `name` from byte `at` on into a front of `into`, and says how many. 0 for a piece
     /// that isn't empty is the end.
     fn read_at(&mut self, name: &str, at: u64, into: &mut [u8]) -> Result<usize, StoreFault>
-        requires { at ≤ 134217729 }
+        requires { at ≤ MAX_CAPTURE + 1 }
         ensures within { IfOk result (λ n. n ≤ length into.new) }
         ensures piece { IfOk result (λ n. IfSome ((seen self.old).told name.now)
             (λ bytes. ReadsPiece bytes at n into.new)) }

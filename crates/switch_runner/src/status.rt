@@ -1,5 +1,6 @@
 ghost use Rattle.std.specs.Prelude.{◌≡◌};
 
+use crate::outside::StoreFault;
 use capture_io::CaptureFault;
 use domino_check::CheckFault;
 use domino_syntax::TextFault;
@@ -17,6 +18,32 @@ pub enum ProgramFault {
     /// Memory ran out.
     #[error("out of memory")]
     NoMemory,
+}
+
+impl From<TextFault> for ProgramFault {
+    ghost use Rattle.switch_runner.specs.Causes.{of_text};
+
+    ghost from_gives = { λ fault e. e ≡ of_text fault };
+
+    fn from(fault: TextFault) -> ProgramFault {
+        match fault {
+            TextFault::NoMemory => ProgramFault::NoMemory,
+            fault => ProgramFault::Text(fault),
+        }
+    }
+}
+
+impl From<CheckFault> for ProgramFault {
+    ghost use Rattle.switch_runner.specs.Causes.{of_check};
+
+    ghost from_gives = { λ fault e. e ≡ of_check fault };
+
+    fn from(fault: CheckFault) -> ProgramFault {
+        match fault {
+            CheckFault::NoMemory => ProgramFault::NoMemory,
+            fault => ProgramFault::Check(fault),
+        }
+    }
 }
 
 /// How a call of the program ends.
@@ -57,6 +84,45 @@ impl Status {
             Status::ReadFault => 5,
             Status::WriteFault => 6,
             Status::NoMemory => 7,
+        }
+    }
+}
+
+impl From<ProgramFault> for Status {
+    ghost use Rattle.switch_runner.specs.Causes.{answer_of_program};
+
+    ghost from_gives = { λ fault e. e ≡ answer_of_program fault };
+
+    fn from(fault: ProgramFault) -> Status {
+        match fault {
+            ProgramFault::NoMemory => Status::NoMemory,
+            fault => Status::Program(fault),
+        }
+    }
+}
+
+impl From<CaptureFault> for Status {
+    ghost use Rattle.switch_runner.specs.Causes.{answer_of_capture};
+
+    ghost from_gives = { λ fault e. e ≡ answer_of_capture fault };
+
+    fn from(fault: CaptureFault) -> Status {
+        match fault {
+            CaptureFault::NoMemory => Status::NoMemory,
+            fault => Status::Capture(fault),
+        }
+    }
+}
+
+impl From<StoreFault> for Status {
+    ghost use Rattle.switch_runner.specs.Causes.{answer_of_store};
+
+    ghost from_gives = { λ fault e. e ≡ answer_of_store fault };
+
+    fn from(fault: StoreFault) -> Status {
+        match fault {
+            StoreFault::Failed => Status::ReadFault,
+            StoreFault::NoMemory => Status::NoMemory,
         }
     }
 }

@@ -1,35 +1,30 @@
 //! The top call: the words, the program, the capture, the run, the report.
-ghost use Rattle.std.specs.Prelude.{◌≡◌, false, List, length, map, string_bytes, IfOk, IfErr, IfSome, None};
+ghost use Rattle.std.specs.Prelude.{◌≡◌, List, length, map, string_bytes, IfOk, IfErr, IfSome, None};
 ghost use Rattle.capture_io.specs.ClassicCapture.{Record, IsCapture};
 ghost use Rattle.capture_io.specs.Header.{headers};
-ghost use Rattle.switch_runner.specs.Causes.{lacks_memory, IsAccepted, IsUnaccepted, ComesWhere, report_of};
+ghost use Rattle.switch_runner.specs.Causes.{IsAccepted, ComesWhere, report_of};
 ghost use Rattle.switch_runner.specs.CommandLine.{AsksForHelp, IsRefused, request_with};
 ghost use Rattle.switch_runner.specs.Laws.{Because, CaptureAlways, IsComplete, Laws, ProgramAlways, ReadsAsked, Reports, StopsAtProgram, Tells, request, texts};
 ghost use Rattle.switch_runner.specs.Outside.{ChangesOnly, IsKept};
 ghost use Rattle.switch_runner.specs.Report.{report};
-ghost use Rattle.switch_runner.specs.Top.{AreWide, NoSource, NoHeaders, Ends, Serves, is_no_memory, read_status};
+ghost use Rattle.switch_runner.specs.Top.{AreWide, NoSource, NoHeaders, NotAccepted, Ends, Serves};
 
 use crate::block::Block;
 use crate::command_line::{Mode, asked};
 use crate::fabric::Fabric;
 use crate::labels::labels_of;
+use crate::limits::{MAX_CAPTURE, MAX_TEXT};
 use crate::line::write_line;
-use crate::outside::{Failed, Sink, Store, StoreFault};
+use crate::outside::{Failed, Sink, Store};
 use crate::report::write_report;
 use crate::run::run_one;
 use crate::status::{ProgramFault, Status};
 use crate::transfer::read_whole;
-use capture_io::{Capture, CaptureFault, read_capture};
-use domino_check::{CheckFault, Checked, check};
-use domino_syntax::{TextFault, read_program};
+use capture_io::{Capture, read_capture};
+use domino_check::{Checked, check};
+use domino_syntax::read_program;
 use mp5_words::FieldNames;
 use std::alloc::Global;
-
-/// The most bytes that a program text has.
-const MAX_TEXT: u64 = 65536;
-
-/// The most bytes that a capture has.
-const MAX_CAPTURE: u64 = 134217728;
 
 /// Runs the program on the words of a command line, whose first word is the program's own name.
 pub fn switch_top<S: Store, K: Sink, F: Fabric>(
@@ -123,42 +118,17 @@ fn read_source<S: Store>(alloc: Global, store: &mut S, name: &str) -> Result<Che
         (λ program. IfSome ((S.seen store.old).told name.now) (λ text. IsAccepted text program)) }
     ensures refused { IfErr result (NoSource name.now (S.seen store.old) (S.seen store.new)) }
 {
-    let text = match read_whole(alloc, store, name, MAX_TEXT) {
-        Ok(text) => text,
-        Err(fault) => return Err(read_fault(fault)),
-    };
-    match accept(alloc, &text) {
-        Ok(checked) => Ok(checked),
-        Err(fault) if lacks_memory(&fault) => Err(Status::NoMemory),
-        Err(fault) => Err(Status::Program(fault)),
-    }
+    let text = read_whole(alloc, store, name, MAX_TEXT)?;
+    Ok(accept(alloc, &text)?)
 }
 
 /// The program that a text is accepted as.
 fn accept(alloc: Global, text: &[u8]) -> Result<Checked, ProgramFault>
     ensures read { IfOk result (λ program. IsAccepted text.now program) }
-    ensures refused { IfErr result (λ f. lacks_memory f ≡ false → IsUnaccepted f text.now) }
+    ensures refused { IfErr result (NotAccepted text.now) }
 {
-    let program = match read_program(alloc, text) {
-        Ok(program) => program,
-        Err(fault) => return Err(ProgramFault::Text(fault)),
-    };
-    match check(alloc, program) {
-        Ok(checked) => Ok(checked),
-        Err(fault) => Err(ProgramFault::Check(fault)),
-    }
-}
-
-/// Whether a program isn't accepted for want of memory alone.
-fn lacks_memory(fault: &ProgramFault) -> bool
-    ensures { result ≡ lacks_memory fault.now }
-{
-    matches!(
-        fault,
-        ProgramFault::NoMemory
-            | ProgramFault::Text(TextFault::NoMemory)
-            | ProgramFault::Check(CheckFault::NoMemory)
-    )
+    let program = read_program(alloc, text)?;
+    Ok(check(alloc, program)?)
 }
 
 /// Reads a capture.
@@ -173,32 +143,8 @@ fn read_headers<S: Store>(
         × IfSome ((S.seen store.old).told name.now) (λ bytes. IsCapture bytes records)) }
     ensures refused { IfErr result (NoHeaders name.now (S.seen store.old) (S.seen store.new)) }
 {
-    let bytes = match read_whole(alloc, store, name, MAX_CAPTURE) {
-        Ok(bytes) => bytes,
-        Err(fault) => return Err(read_fault(fault)),
-    };
-    match read_capture(alloc, &bytes, fields) {
-        Ok(capture) => Ok(capture),
-        Err(fault) if is_no_memory(&fault) => Err(Status::NoMemory),
-        Err(fault) => Err(Status::Capture(fault)),
-    }
-}
-
-/// Whether a capture isn't read for want of memory alone.
-fn is_no_memory(fault: &CaptureFault) -> bool
-    ensures { result ≡ is_no_memory fault.now }
-{
-    matches!(fault, CaptureFault::NoMemory)
-}
-
-/// The answer to a read that gave nothing.
-fn read_fault(fault: StoreFault) -> Status
-    ensures { result ≡ read_status fault }
-{
-    match fault {
-        StoreFault::Failed => Status::ReadFault,
-        StoreFault::NoMemory => Status::NoMemory,
-    }
+    let bytes = read_whole(alloc, store, name, MAX_CAPTURE)?;
+    Ok(read_capture(alloc, &bytes, fields)?)
 }
 
 /// Runs the transaction on each header in the way of the mode, and then writes the report.

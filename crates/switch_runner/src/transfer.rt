@@ -3,9 +3,10 @@ ghost use Rattle.std.specs.Prelude.{◌≡◌, ◌≤◌, ◌<◌, ◌+◌, leng
 ghost use Rattle.switch_runner.specs.Outside.{Grew, Stopped};
 ghost use Rattle.switch_runner.specs.Faults.{Reads};
 ghost use Rattle.switch_runner.specs.Transfer.{ReadsOn};
+ghost use Rattle.switch_runner.specs.declared.limits.TheConstants.{MAX_CAPTURE};
 
 use crate::outside::{Failed, Sink, Store, StoreFault};
-use std::alloc::{AllocError, Global};
+use std::alloc::Global;
 
 // The most bytes that one read or write moves.
 const PIECE: usize = 65536;
@@ -17,15 +18,13 @@ pub(crate) fn read_whole<S: Store>(
     name: &str,
     limit: u64,
 ) -> Result<Vec<u8>, StoreFault>
-    requires { limit ≤ 134217728 }
+    requires { limit ≤ MAX_CAPTURE }
     ensures read { IfOk result (λ v. IfSome ((S.seen store.old).told name.now)
         (λ bytes. v.items ≡ take (limit + 1) bytes)) }
     ensures reads { Reads name.now (S.seen store.old) (S.seen store.new) result }
 {
-    match vec![in alloc; 0u8; PIECE] {
-        Ok(mut buffer) => read_by(alloc, store, name, limit, buffer.as_mut_slice()),
-        Err(AllocError) => Err(StoreFault::NoMemory),
-    }
+    let mut buffer = vec![in alloc; 0u8; PIECE]?;
+    read_by(alloc, store, name, limit, buffer.as_mut_slice())
 }
 
 // Reads a file as `read_whole` does, in pieces that fit the buffer.
@@ -36,7 +35,7 @@ fn read_by<S: Store>(
     limit: u64,
     buffer: &mut [u8],
 ) -> Result<Vec<u8>, StoreFault>
-    requires limited { limit ≤ 134217728 }
+    requires limited { limit ≤ MAX_CAPTURE }
     requires room { length buffer.old ≡ PIECE }
     ensures read { IfOk result (λ v. IfSome ((S.seen store.old).told name.now)
         (λ bytes. v.items ≡ take (limit + 1) bytes)) }
@@ -46,10 +45,8 @@ fn read_by<S: Store>(
     let mut text = Vec::new(alloc);
     while text.len() < most {
         let room = PIECE.min(most - text.len());
-        match read_more(store, name, &mut buffer[..room], &mut text) {
-            Ok(0) => return Ok(text),
-            Ok(_) => {}
-            Err(fault) => return Err(fault),
+        if read_more(store, name, &mut buffer[..room], &mut text)? == 0 {
+            return Ok(text);
         }
     }
     Ok(text)
@@ -62,20 +59,16 @@ fn read_more<S: Store>(
     piece: &mut [u8],
     text: &mut Vec<u8>,
 ) -> Result<usize, StoreFault>
-    requires { vec_len text.old ≤ 134217729 }
+    requires { vec_len text.old ≤ MAX_CAPTURE + 1 }
     ensures within { IfOk result (λ n. n ≤ length piece.new) }
     ensures longer { IfOk result (λ n. vec_len text.new ≡ vec_len text.old + n) }
     ensures grown { IfOk result (λ n. IfSome ((S.seen store.old).told name.now)
         (λ bytes. ReadsOn bytes text.old.items n (length piece.old) text.new.items)) }
     ensures reads { Reads name.now (S.seen store.old) (S.seen store.new) result }
 {
-    match store.read_at(name, text.len() as u64, piece) {
-        Ok(count) => match text.extend_from_slice(&piece[..count]) {
-            Ok(()) => Ok(count),
-            Err(AllocError) => Err(StoreFault::NoMemory),
-        },
-        Err(fault) => Err(fault),
-    }
+    let count = store.read_at(name, text.len() as u64, piece)?;
+    text.extend_from_slice(&piece[..count])?;
+    Ok(count)
 }
 
 /// Writes all bytes, going on after a short write.

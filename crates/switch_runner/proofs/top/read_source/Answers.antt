@@ -1,18 +1,24 @@
-use Rattle.std.proofs.Common.{◌≡◌, ◌∙◌, ℕ, List, false, take, sym, subst}
-use Rattle.switch_runner.specs.Causes.{lacks_memory, IsAccepted, IsUnaccepted, IsNoProgram}
+use Rattle.std.proofs.Common.{◌≡◌, ◌∙◌, ℕ, List, take, subst}
+use Rattle.std.proofs.lemmas.Result.{err_from_is_err_and}
+use Rattle.switch_runner.specs.Causes.{IsAccepted}
+use Rattle.switch_runner.specs.Top.{NotAccepted}
 use Rattle.switch_runner.proofs.TopLemmas.{accepted_told, if_told}
+use Rattle.switch_runner.proofs.FaultLemmas.{source_unread, no_source}
 use Rattle.switch_runner.proofs.top.read_source.Goals as goal
 
-pub returns-in-Ok-accept-clause-read : goal.returns-in-Ok-accept-clause-read
-returns-in-Ok-accept-clause-read g c =
-    if_told ((g.S.Store.seen c.args.store.now).told c.args.name.now) (λ bytes. c.in-Ok.text.items ≡ take 65537 bytes) (λ text. IsAccepted text c.in-Ok-accept.checked)
-    (λ bytes e. accepted_told c.deref.result.now bytes c.in-Ok-accept.checked (c.deref.ensures.value ∙ e) c.in-Ok-accept.ensures.read) c.in-Ok.ensures.read
+pub returns-in_err-text-clause-refused : goal.returns-in_err-text-clause-refused
+returns-in_err-text-clause-refused g c =
+    let p = err_from_is_err_and c.from_residual.result c.from_residual.ensures.1 in
+    rw (p.1, p.2) (source_unread c.args.name.now (g.S.Store.seen c.args.store.now) (g.S.Store.seen c.read_whole.new.store) c.in_err-text.field-0.0 c.in_err-text.ensures.reads.failed)
 
-pub returns-clause-refused : goal.returns-clause-refused
-returns-clause-refused g c =
-    let fault = c.in-Err-accept.fault in
-    let lacking : lacks_memory fault ≡ false = sym c.lacks_memory.ensures ∙ c.if-lacks_memory.false in (
-      lacking,
-      if_told ((g.S.Store.seen c.args.store.now).told c.args.name.now) (λ bytes. c.in-Ok.text.items ≡ take 65537 bytes) (IsNoProgram fault)
-          (λ bytes e. subst (λ (l : List ℕ). IsUnaccepted fault l) (c.deref.ensures.value ∙ e) (c.in-Err-accept.ensures.refused lacking)) c.in-Ok.ensures.read,
-    )
+pub returns-in_err-accept-clause-refused : goal.returns-in_err-accept-clause-refused
+returns-in_err-accept-clause-refused g c =
+    let p = err_from_is_err_and c.from_residual-in_err-accept.result c.from_residual-in_err-accept.ensures.1 in
+    let fault = c.in_err-accept.field-0.0 in
+    rw (p.1, p.2) (no_source c.args.name.now (g.S.Store.seen c.args.store.now) (g.S.Store.seen c.read_whole.new.store) c.in_ok-text.text.items fault c.in_ok-text.ensures.read
+    (subst (λ (l : List ℕ). NotAccepted l fault) c.deref.ensures.value c.in_err-accept.ensures.refused))
+
+pub returns-clause-read : goal.returns-clause-read
+returns-clause-read g c =
+    if_told ((g.S.Store.seen c.args.store.now).told c.args.name.now) (λ bytes. c.in_ok-text.text.items ≡ take 65537 bytes) (λ text. IsAccepted text c.in_ok-accept.field-0)
+    (λ bytes e. accepted_told c.deref.result.now bytes c.in_ok-accept.field-0 (c.deref.ensures.value ∙ e) c.in_ok-accept.ensures.read) c.in_ok-text.ensures.read
