@@ -16,7 +16,8 @@ use std::alloc::Global;
 pub fn choose_moves(alloc: Global, loads: &Loads, owners: &Owners) -> Result<Vec<Move>, NoMemory>
     requires { AreOverSame loads.now owners.now }
     ensures choice { IfOk result (λ moves. IsChoice loads.now owners.now moves.items) }
-    ensures only { IfOk result (λ moves. (others : List Move) → IsChoice loads.now owners.now others → others ≡ moves.items) }
+    ensures only { IfOk result (λ moves. (others : List Move)
+        → IsChoice loads.now owners.now others → others ≡ moves.items) }
     ensures plan { IfOk result (λ moves. IsPlan owners.now moves.items) }
 {
     let mut room = [NO_MOVE; 16];
@@ -29,7 +30,8 @@ pub fn choose_into(loads: &Loads, owners: &Owners, room: &mut [Move; 16]) -> usi
     requires { AreOverSame loads.now owners.now }
     ensures count { result ≤ 16 }
     ensures choice { IsChoice loads.now owners.now (take result room.new) }
-    ensures only { (others : List Move) → IsChoice loads.now owners.now others → others ≡ take result room.new }
+    ensures only { (others : List Move)
+        → IsChoice loads.now owners.now others → others ≡ take result room.new }
     ensures plan { IsPlan owners.now (take result room.new) }
 {
     let mut count = 0;
