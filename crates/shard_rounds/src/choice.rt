@@ -191,6 +191,49 @@ mod tests {
     }
 
     #[test]
+    fn the_loads_5_1_3_and_0_of_two_pipes(rt: HostRuntime) -> Result<(), Fail> {
+        let units = [4];
+        let owners = Owners::start(rt.alloc(), &units, 2, 1)?;
+        let mut loads = Loads::start(rt.alloc(), &units)?;
+        loads.add(0, 0);
+        loads.add(0, 0);
+        loads.add(0, 0);
+        loads.add(0, 0);
+        loads.add(0, 0);
+        loads.add(0, 1);
+        loads.add(0, 2);
+        loads.add(0, 2);
+        loads.add(0, 2);
+        let moves = choose_moves(rt.alloc(), &loads, &owners)?;
+        let wanted = Move {
+            group: 0,
+            unit: 2,
+            giver: 0,
+            taker: 1,
+        };
+        assert_eq!(rt;
+            moves.as_slice(),
+            [wanted].as_slice(),
+            "the totals are 8 and 1"
+        );
+        Ok(())
+    }
+
+    #[test]
+    fn a_plan_without_a_move(rt: HostRuntime) -> Result<(), Fail> {
+        let units = [3, 1];
+        let loads = Loads::start(rt.alloc(), &units)?;
+        let mut owners = Owners::start(rt.alloc(), &units, 2, 1)?;
+        let moves = choose_moves(rt.alloc(), &loads, &owners)?;
+        assert_eq!(rt; moves.len(), 0);
+        owners.apply(&Plan { moves });
+        assert_eq!(rt; owners.of(0, 1), 1);
+        assert_eq!(rt; owners.at(0, 1, 0), 1);
+        assert_eq!(rt; owners.at(1, 1, 0), 1);
+        Ok(())
+    }
+
+    #[test]
     fn a_plan_is_chosen_and_applied(rt: HostRuntime) -> Result<(), Fail> {
         let units = [4];
         let mut loads = Loads::start(rt.alloc(), &units)?;
