@@ -1,12 +1,12 @@
 -- What each call leaves is again an exit, and how packets are merged.
-use Rattle.std.proofs.Common.{◌≡◌, ◌≢◌, ℕ, zero, suc, ◌+◌, ◌-◌, ◌*◌, ◌/◌, ◌%◌, ◌<◌, ◌≤◌, ◌==◌, Bool, true, false, cond, ◌&&◌, nat_lt, List, [], ◌∷◌, length, take, drop, ℤ, pos, slice_index_or, slice_set, replicate, refl, sym, ap, subst, ◌∙◌, arith, get_or-set_other, length-take, length-drop, eq-eqb, zero-add}
+use Rattle.std.proofs.Common.{◌≡◌, ◌≢◌, ℕ, zero, suc, ◌+◌, ◌-◌, ◌*◌, ◌/◌, ◌%◌, ◌<◌, ◌≤◌, ◌==◌, Bool, true, false, cond, ◌&&◌, nat_lt, List, length, take, drop, ℤ, pos, slice_index_or, slice_set, replicate, refl, sym, ap, subst, ◌∙◌, arith, get_or-set_other, length-take, length-drop, eq-eqb, zero-add}
 use Rattle.std.proofs.Math.ListN.{length-set}
 use Rattle.std.proofs.Math.Nat.{mod-add-div', mul-le-mul_left, mul-le-mul_right, add-mul-mod_self_right, add-mul-div_right, mod-eq_of_lt, div-eq_of_lt}
 use Rattle.std.proofs.lemmas.Bool.{ltb-true, ltb-false, lt-ltb, le-ltb, eqb-true}
 use Rattle.std.proofs.lemmas.List.{length-replicate, get_or-take, get_or-drop}
 use Rattle.std.proofs.lemmas.Grind.{common_steps}
-use Rattle.egress_order.specs.OwnPackets.{OwnPackets, IsExit, IsAway, IsMerged, Counts, own_arrival, own_count, unentered, leading, left_count, is_home, written, came_home, word_of}
-use Rattle.egress_order.proofs.Leading.{leading_length, leading_stop, leading_set, leading_none}
+use Rattle.egress_order.specs.OwnPackets.{OwnPackets, IsExit, IsAway, IsMerged, Counts, own_arrival, own_count, unentered, left_count, written, came_home, word_of}
+use Rattle.egress_order.proofs.Leading.{leading_stop, leading_set, leading_none}
 use Rattle.egress_order.proofs.Pieces.{length_written, row_written}
 
 -- an arrival is the own one of its number

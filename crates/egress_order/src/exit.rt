@@ -71,8 +71,10 @@ impl HomeExit {
         ensures arrival { IfSome result (λ t. t ≡ own_arrival self.old self.old.entered) }
         ensures early { IfSome result (λ t. t < self.old.arrivals) }
         ensures open { OnSome result (self.old.entered < left_count self.old + self.old.window) }
-        ensures entered { OnSome result (self.new ≡ record self.old { entered = self.old.entered + 1 }) }
-        ensures none { IfNone result ((self.old.entered ≡ left_count self.old + self.old.window) ⊎ (self.old.arrivals ≤ own_arrival self.old self.old.entered)) }
+        ensures entered { OnSome result
+            (self.new ≡ record self.old { entered = self.old.entered + 1 }) }
+        ensures none { IfNone result ((self.old.entered ≡ left_count self.old + self.old.window)
+            ⊎ (self.old.arrivals ≤ own_arrival self.old self.old.entered)) }
         ensures kept { IfNone result (self.new ≡ self.old) }
     {
         if self.entered == self.left + self.window {

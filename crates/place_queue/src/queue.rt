@@ -69,7 +69,8 @@ impl Places {
         requires turn { t ≡ slice_index self.old.floors source }
         requires arrival { t < self.old.arrivals }
         ensures ok { OnOk result (self.new ≡ announced self.old source t unit) }
-        ensures room { OnOk result (IfSome unit (λ _. count_of self.old.unserved source < self.old.window)) }
+        ensures room { OnOk result
+            (IfSome unit (λ _. count_of self.old.unserved source < self.old.window)) }
         ensures given { OnErr result (IsSome unit) }
         ensures full { OnErr result (count_of self.old.unserved source ≡ self.old.window) }
         ensures kept { OnErr result (self.new ≡ self.old) }

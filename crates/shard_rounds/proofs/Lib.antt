@@ -2,3 +2,4 @@ pub mod Moves
 pub mod Rows
 pub mod Tables
 pub mod Choosing
+pub mod Sames

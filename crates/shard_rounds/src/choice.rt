@@ -16,7 +16,8 @@ use std::alloc::Global;
 pub fn choose_moves(alloc: Global, loads: &Loads, owners: &Owners) -> Result<Vec<Move>, NoMemory>
     requires { AreOverSame loads.now owners.now }
     ensures choice { IfOk result (λ moves. IsChoice loads.now owners.now moves.items) }
-    ensures only { IfOk result (λ moves. (others : List Move) → IsChoice loads.now owners.now others → others ≡ moves.items) }
+    ensures only { IfOk result (λ moves. (others : List Move)
+        → IsChoice loads.now owners.now others → others ≡ moves.items) }
     ensures plan { IfOk result (λ moves. IsPlan owners.now moves.items) }
 {
     let mut room = [NO_MOVE; 16];
@@ -29,7 +30,8 @@ pub fn choose_into(loads: &Loads, owners: &Owners, room: &mut [Move; 16]) -> usi
     requires { AreOverSame loads.now owners.now }
     ensures count { result ≤ 16 }
     ensures choice { IsChoice loads.now owners.now (take result room.new) }
-    ensures only { (others : List Move) → IsChoice loads.now owners.now others → others ≡ take result room.new }
+    ensures only { (others : List Move)
+        → IsChoice loads.now owners.now others → others ≡ take result room.new }
     ensures plan { IsPlan owners.now (take result room.new) }
 {
     let mut count = 0;
@@ -186,6 +188,49 @@ mod tests {
         assert_eq!(rt; chosen(&[0, 1], &[0, 0], 2), None, "no load");
         assert_eq!(rt; chosen(&[0, 0], &[0, 9], 1), None, "one pipe");
         assert_eq!(rt; chosen(&[0], &[262_144], 8), None, "all load in one unit");
+    }
+
+    #[test]
+    fn the_loads_5_1_3_and_0_of_two_pipes(rt: HostRuntime) -> Result<(), Fail> {
+        let units = [4];
+        let owners = Owners::start(rt.alloc(), &units, 2, 1)?;
+        let mut loads = Loads::start(rt.alloc(), &units)?;
+        loads.add(0, 0);
+        loads.add(0, 0);
+        loads.add(0, 0);
+        loads.add(0, 0);
+        loads.add(0, 0);
+        loads.add(0, 1);
+        loads.add(0, 2);
+        loads.add(0, 2);
+        loads.add(0, 2);
+        let moves = choose_moves(rt.alloc(), &loads, &owners)?;
+        let wanted = Move {
+            group: 0,
+            unit: 2,
+            giver: 0,
+            taker: 1,
+        };
+        assert_eq!(rt;
+            moves.as_slice(),
+            [wanted].as_slice(),
+            "the totals are 8 and 1"
+        );
+        Ok(())
+    }
+
+    #[test]
+    fn a_plan_without_a_move(rt: HostRuntime) -> Result<(), Fail> {
+        let units = [3, 1];
+        let loads = Loads::start(rt.alloc(), &units)?;
+        let mut owners = Owners::start(rt.alloc(), &units, 2, 1)?;
+        let moves = choose_moves(rt.alloc(), &loads, &owners)?;
+        assert_eq!(rt; moves.len(), 0);
+        owners.apply(&Plan { moves });
+        assert_eq!(rt; owners.of(0, 1), 1);
+        assert_eq!(rt; owners.at(0, 1, 0), 1);
+        assert_eq!(rt; owners.at(1, 1, 0), 1);
+        Ok(())
     }
 
     #[test]

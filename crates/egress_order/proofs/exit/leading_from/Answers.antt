@@ -1,4 +1,4 @@
-use Rattle.std.proofs.Common.{◌≡◌, ◌≤◌, length, slice_index_or, false, arith}
+use Rattle.std.proofs.Common.{◌≤◌, arith}
 use Rattle.egress_order.specs.OwnPackets.{leading}
 use Rattle.egress_order.proofs.Leading.{leading_length, leading_go, leading_stop}
 use Rattle.egress_order.proofs.exit.leading_from.Goals as goal

@@ -1,4 +1,3 @@
-use Rattle.std.proofs.Common.{◌≡◌, length}
 use Rattle.egress_order.proofs.Exits.{MergedBelow}
 use Rattle.egress_order.proofs.exit.merge.Given as goal
 

@@ -1,4 +1,4 @@
-use Rattle.std.proofs.Common.{◌≤◌, arith}
+use Rattle.std.proofs.Common.{arith}
 use Rattle.egress_order.proofs.Exits.{few_home, small_next}
 use Rattle.egress_order.proofs.exit.HomeExit.enter.Goals as goal
 

@@ -1,7 +1,7 @@
-use Rattle.std.proofs.Common.{◌≡◌, ◌≤◌, ◌*◌, ◌/◌, ◌∙◌, true, length, take, drop, ◌++◌, ap, arith}
+use Rattle.std.proofs.Common.{◌≡◌, ◌*◌, ◌/◌, ◌∙◌, true, length, ap, arith}
 use Rattle.std.proofs.Math.ListN.{length-set}
 use Rattle.std.proofs.lemmas.List.{with_items_is}
-use Rattle.egress_order.specs.OwnPackets.{leading, written}
+use Rattle.egress_order.specs.OwnPackets.{leading}
 use Rattle.egress_order.proofs.Leading.{leading_set}
 use Rattle.egress_order.proofs.Pieces.{length_written}
 use Rattle.egress_order.proofs.Exits.{few_home, home_fits, home_counts}

@@ -1,4 +1,4 @@
-use Rattle.std.proofs.Common.{◌≡◌, ◌+◌, ◌-◌, ◌*◌, ◌/◌, false, replicate, pos, sym, rules}
+use Rattle.std.proofs.Common.{◌≡◌, ◌*◌, false, replicate, pos, sym, rules}
 use Rattle.egress_order.specs.OwnPackets.{own_count}
 use Rattle.egress_order.proofs.Exits.{new_lawful}
 use Rattle.egress_order.proofs.Leading.{leading_none}

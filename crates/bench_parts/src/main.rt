@@ -1,0 +1,95 @@
+//! The program `bench_parts`: what the parts of a network of pipelines take, beside plain loops.
+#![tactic(auto)]
+
+mod figure;
+mod hops;
+mod plans;
+mod queue;
+mod shares;
+mod visits;
+
+use figure::{Figure, Trouble};
+use std::alloc::Global;
+use std::env;
+use std::rt::Clock;
+use std::sync::Wait;
+use std::thread::Threads;
+
+/// Whether the first word of the command line asks for the figures.
+fn is_measure(rt: &HostRuntime) -> Result<bool, Trouble> {
+    match env::args(rt)?.nth(1) {
+        Some(word) => Ok(word.as_str() == "measure"),
+        None => Ok(false),
+    }
+}
+
+/// Prints a figure of a part, and that of the plain loop beside it.
+fn show(
+    rt: &impl Print,
+    name: &str,
+    part: Figure,
+    beside: &str,
+    plain: Figure,
+) -> Result<(), Trouble> {
+    println!(rt; "{name}\t{part}\t{beside}\t{plain}")?;
+    Ok(())
+}
+
+/// Measures each part in turn.
+fn measure<R: Print + Clock + Wait + Threads + Sync>(rt: &R, alloc: Global) -> Result<(), Trouble> {
+    let visits = visits::measure(rt, alloc)?;
+    let stores = visits::plain(rt, alloc)?;
+    show(
+        rt,
+        "announce with a unit",
+        visits.given,
+        "store a place and a floor",
+        stores.given,
+    )?;
+    show(
+        rt,
+        "announce without a unit",
+        visits.passed,
+        "store a floor and compare",
+        stores.passed,
+    )?;
+    show(
+        rt,
+        "next and served",
+        visits.served,
+        "read a place and count",
+        stores.served,
+    )?;
+    let copies = hops::plain(rt, alloc)?;
+    show(
+        rt,
+        "hop on one thread",
+        hops::alone(rt, alloc)?,
+        "copy into a ring and out",
+        copies,
+    )?;
+    show(
+        rt,
+        "hop between two threads",
+        hops::across(rt, alloc)?,
+        "copy into a ring and out",
+        copies,
+    )?;
+    let sums = plans::plain(rt, alloc)?;
+    show(
+        rt,
+        "plan over 65536 units",
+        plans::measure(rt, alloc)?,
+        "sum by owner, then seek",
+        sums,
+    )
+}
+
+fn main(rt: HostRuntime) -> Result<(), Trouble> {
+    if is_measure(&rt)? {
+        measure(&rt, rt.alloc())
+    } else {
+        println!(rt; "usage: bench_parts measure")?;
+        Ok(())
+    }
+}
