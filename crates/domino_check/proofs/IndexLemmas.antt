@@ -12,8 +12,12 @@ use Rattle.domino_check.specs.Numbering.{Access}
 use Rattle.domino_check.specs.First.{FirstFault, NoFault}
 use Rattle.domino_check.specs.Infos.{array_of}
 use Rattle.domino_check.specs.Indexes.{index_of, IsOther, Agrees, Keeps, AllKeep, array_name, IndexDiffersAt, AreIndexes, AreBelow, indexes_of, noted}
-use Rattle.domino_check.proofs.ScopeLemmas.{array_names}
 use Rattle.domino_check.proofs.FirstLemmas.{none_with, first_at}
+
+-- the names of the arrays, kept with and without whether each is a register
+array_names : (infos : List ArrayInfo) → map (λ (d : Array). d.name) (map array_of infos) ≡ map (λ (i : ArrayInfo). i.name) infos
+array_names [] = refl
+array_names (i ∷ infos) = ap (λ names. i.name ∷ names) (array_names infos)
 
 -- ---- the table
 

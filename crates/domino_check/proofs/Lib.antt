@@ -1,10 +1,8 @@
 pub mod CountLemmas
 pub mod FirstLemmas
-pub mod ScopeLemmas
 pub mod NumberingLemmas
 pub mod IndexLemmas
 pub mod MeaningLemmas
-pub mod NumberLemmas
 pub mod TableLemmas
 pub mod Agreement
 pub mod SiteLemmas
@@ -20,4 +18,7 @@ pub mod BelowLemmas
 pub mod FitLemmas
 pub mod PartsLemmas
 pub mod RefusedLemmas
+pub mod ScopeLemmas
+pub mod SymbolLemmas
+pub mod OnceLemmas
 pub mod AssemblyLemmas

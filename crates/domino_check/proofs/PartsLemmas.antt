@@ -9,10 +9,9 @@ use Rattle.mp5_words.specs.Cells.{natural}
 use Rattle.domino_check.specs.declared.fault.CheckFault.TheVariants as fault
 use Rattle.domino_check.specs.declared.fault.What.TheVariants as what
 use Rattle.domino_check.specs.declared.numbered.ArrayInfo.{ArrayInfo}
-use Rattle.domino_check.specs.declared.scope.Define.{Define}
 use Rattle.domino_check.specs.First.{NoFault}
-use Rattle.domino_check.specs.Checks.{bad_of, BadLengthAt, NoBadLength, NoTooMany}
-use Rattle.domino_check.specs.Infos.{item_info, infos_of, array_of, defined_of, names_from}
+use Rattle.domino_check.specs.Checks.{bad_of, BadLengthAt, NoBadLength, NoTooMany, NoTwice}
+use Rattle.domino_check.specs.Infos.{item_info, infos_of, array_of}
 use Rattle.domino_check.specs.Accepted.{AreSized, Keeps}
 use Rattle.std.proofs.lemmas.List.FromFn.{length-map-range_with_len}
 use Rattle.domino_check.specs.declared.numbered.CheckedExpr.{CheckedExpr}
@@ -21,13 +20,10 @@ use Rattle.domino_check.specs.Numbering.{accesses}
 use Rattle.domino_check.specs.Indexes.{AreBelow, AllKeep, index_of, indexes_of}
 use Rattle.domino_check.specs.Sites.{program_indexes}
 use Rattle.domino_check.specs.Refused.{PassesNames, PassesSizes}
+use Rattle.domino_check.specs.Symbols.{Named, Numbers, StandFor, IsScope, names_from, symbols_of}
 use Rattle.domino_check.proofs.BelowLemmas.{accesses_below}
 use Rattle.domino_check.proofs.CheckedLemmas.{infos_are, length-infos}
-
--- the names of a program, from its lists
-pub names_are : (p : Program) (defines : List Define) (fields : List (List ℕ)) (infos : List ArrayInfo)
-    → map defined_of defines ≡ (names_of p).defines → fields ≡ p.packet.fields → infos ≡ infos_of p → names_from defines fields infos ≡ names_of p
-names_are p defines fields infos d f i = λ j. record { defines = d j; fields = f j; arrays = (ap (map array_of) i ∙ infos_are p) j }
+use Rattle.domino_check.proofs.OnceLemmas.{names_are, stand_for}
 
 -- ---- counts
 
@@ -116,3 +112,23 @@ keeps_of p xs x sizes kept = record {
   sized = sized_of p sizes.lengths;
   indexed = subst (λ (l : List Access). AllKeep (index_of l) l) x kept;
 }
+
+-- the table of a program, with its fields and arrays, says what its names do
+pub scope_of : (p : Program) (ds : List Named) (fields : List (List ℕ)) (infos : List ArrayInfo) → ds ≡ symbols_of p → fields ≡ p.packet.fields → infos ≡ infos_of p
+    → NoTwice p → length p.packet.fields ≤ 32 → length infos ≤ 16 → IsScope ds fields infos
+scope_of p ds fields infos d f i once few_fields few_arrays =
+    subst (λ (l : List Named). IsScope l fields infos) (sym d)
+    (subst (λ (l : List (List ℕ)). IsScope (symbols_of p) l infos) (sym f)
+    (record {
+      few_fields = few_fields;
+      few_arrays = few_arrays;
+      stand = subst (StandFor (symbols_of p)) (sym (names_are p infos i)) (stand_for p once);
+    }))
+
+pub scope_is : (p : Program) (ds : List Named) (fields : List (List ℕ)) (infos : List ArrayInfo) → ds ≡ symbols_of p → fields ≡ p.packet.fields → infos ≡ infos_of p
+    → names_from ds fields infos ≡ names_of p
+scope_is p ds fields infos d f i = (λ j. names_from (d j) (f j) infos) ∙ names_are p infos i
+
+-- its defined names have their numbers
+pub numbers_of : (p : Program) (ds : List Named) → ds ≡ symbols_of p → NoTwice p → Numbers ds (names_of p).defines
+numbers_of p ds is once = subst (λ (l : List Named). Numbers l (names_of p).defines) (sym is) (stand_for p once).defines

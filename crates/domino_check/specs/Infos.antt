@@ -1,13 +1,11 @@
--- What a program declares, as the checked program keeps it: each array with whether it is a register, and the
--- defined names.
-use Rattle.std.specs.Prelude.{ℕ, Bool, true, false, List, [], ◌∷◌, ◌++◌, map, flat_map, Option, Some, None}
+-- What a program declares, as the checked program keeps it: each array with whether it is a register.
+use Rattle.std.specs.Prelude.{Bool, true, false, List, [], ◌∷◌, ◌++◌, flat_map, Option, Some, None}
 use Rattle.domino_tree.specs.declared.program.Size.{Size}
 use Rattle.domino_tree.specs.declared.program.Item.{Item}
 use Rattle.domino_tree.specs.declared.program.Item.TheVariants as item
 use Rattle.domino_tree.specs.declared.program.Program.{Program}
-use Rattle.domino_tree.specs.Value.{Names, Defined, Array, item_define, length_value, start_value}
+use Rattle.domino_tree.specs.Value.{Defined, Array, item_define, length_value, start_value}
 use Rattle.domino_check.specs.declared.numbered.ArrayInfo.{ArrayInfo}
-use Rattle.domino_check.specs.declared.scope.Define.{Define}
 
 -- whether no length is declared
 abbrev pub is_scalar : Option Size → Bool
@@ -31,11 +29,3 @@ infos_of p = flat_map (item_info (flat_map item_define (p.before ++ p.after))) (
 -- an array without whether it is a register
 abbrev pub array_of : ArrayInfo → Array
 array_of i = record { name = i.name; length = i.length; start = i.start }
-
--- a defined name and its number
-abbrev pub defined_of : Define → Defined
-defined_of d = record { name = d.name; number = d.number }
-
--- the names that these lists declare
-abbrev pub names_from : List Define → List (List ℕ) → List ArrayInfo → Names
-names_from defines fields arrays = record { defines = map defined_of defines; fields = fields; arrays = map array_of arrays }

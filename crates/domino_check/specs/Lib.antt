@@ -7,8 +7,7 @@ pub mod WellFormed
 pub mod Uses
 pub mod Declarations
 pub mod Checks
-pub mod KindTable
-pub mod DefineTable
+pub mod Symbols
 pub mod Sites
 pub mod Touches
 pub mod Touched

@@ -3,40 +3,55 @@
 ghost use Rattle.std.specs.Prelude.{◌≡◌, ◌≢◌, IfOk, IfErr, OnOk, IsErrAnd};
 ghost use Rattle.domino_check.specs.declared.fault.CheckFault.{CheckFault as Fault};
 ghost use Rattle.domino_check.specs.declared.fault.CheckFault.TheVariants.{NoMemory};
+ghost use Rattle.domino_tree.specs.Value.{names_of};
+ghost use Rattle.domino_check.specs.Accepted.{IsChecked};
 ghost use Rattle.domino_check.specs.Refused.{PassesNames, PassesSizes, Passes, RefusedNames, RefusedSizes, Refused};
+ghost use Rattle.domino_check.specs.Symbols.{Numbers, symbols_of};
 
 use crate::checked::Checked;
 use crate::declarations::declarations;
-use crate::define_table::numbers_of;
 use crate::fault::CheckFault;
-use crate::name_checks::{check_calls, check_kinds, check_known, kinds_of};
-use crate::parts::parts_of;
+use crate::name_checks::{check_calls, check_kinds, check_known, symbols_of};
+use crate::parts::{Parts, parts_of};
 use crate::size_checks::{check_counts, check_lengths};
+use crate::symbol_table::Symbols;
 use crate::uses::uses_of;
 use domino_tree::Program;
 use std::alloc::Global;
 
-// The checks of names and calls.
-fn check_names(alloc: Global, program: &Program) -> Result<(), CheckFault>
+// The checks of names and calls. Gives the table of what the names stand for.
+fn check_names(alloc: Global, program: &Program) -> Result<Symbols<'_>, CheckFault>
+    ensures symbols { IfOk result (λ symbols. symbols ≡ symbols_of program.now) }
     ensures passes { OnOk result (PassesNames program.now) }
     ensures refuses { IfErr result (λ f. f ≢ NoMemory → RefusedNames program.now f) }
 {
     let declared = declarations(alloc, program)?;
-    let kinds = kinds_of(alloc, &declared)?;
+    let symbols = symbols_of(alloc, &declared)?;
     let uses = uses_of(alloc, program)?;
-    check_known(alloc, &uses, &kinds)?;
-    check_kinds(alloc, &uses, &kinds)?;
-    check_calls(alloc, &uses)
+    check_known(alloc, &uses, &symbols)?;
+    check_kinds(alloc, &uses, &symbols)?;
+    check_calls(alloc, &uses)?;
+    Ok(symbols)
 }
 
 // The checks of lengths and counts.
-fn check_sizes(alloc: Global, program: &Program) -> Result<(), CheckFault>
+fn check_sizes(alloc: Global, program: &Program, symbols: &Symbols<'_>) -> Result<(), CheckFault>
+    requires { Numbers symbols.now (names_of program.now).defines }
     ensures passes { OnOk result (PassesSizes program.now) }
     ensures refuses { IfErr result (λ f. f ≢ NoMemory → RefusedSizes program.now f) }
 {
-    let numbers = numbers_of(alloc, program)?;
-    check_lengths(alloc, program, &numbers)?;
-    check_counts(alloc, program, &numbers)
+    check_lengths(alloc, program, symbols)?;
+    check_counts(alloc, program, symbols)
+}
+
+// What a program keeps beside itself, where it passes all checks.
+fn checked_parts(alloc: Global, program: &Program) -> Result<Parts, CheckFault>
+    ensures parts { IfOk result (λ parts. IsChecked program.now parts.fields parts.arrays parts.body parts.indexes) }
+    ensures refused { IfErr result (λ f. f ≢ NoMemory → Refused program.now f) }
+{
+    let symbols = check_names(alloc, program)?;
+    check_sizes(alloc, program, &symbols)?;
+    parts_of(alloc, program, &symbols)
 }
 
 // All checks.
@@ -45,9 +60,7 @@ fn check_all(alloc: Global, program: Program) -> Result<Checked, CheckFault>
     ensures passes { OnOk result (Passes program) }
     ensures refused { IfErr result (λ f. f ≢ NoMemory → Refused program f) }
 {
-    check_names(alloc, &program)?;
-    check_sizes(alloc, &program)?;
-    let parts = parts_of(alloc, &program)?;
+    let parts = checked_parts(alloc, &program)?;
     Ok(Checked::new(program, parts))
 }
 

@@ -1,28 +1,27 @@
 //! The declarations of a program, in text order.
 
-ghost use Rattle.std.specs.Prelude.{◌≡◌, ◌++◌, ◌∷◌, [], map, IfOk, OnOk};
-ghost use Rattle.domino_check.specs.declared.role.Kind.TheVariants as kind;
-ghost use Rattle.domino_check.specs.Declarations.{all_as, item_declaration, packet_declarations, function_declarations, declarations};
+ghost use Rattle.std.specs.Prelude.{◌≡◌, ◌≤◌, ◌<◌, ◌+◌, ◌^◌, ◌++◌, ◌∷◌, [], length, IfOk, OnOk};
+ghost use Rattle.domino_check.specs.Symbols.{next_array, arrays_after, item_symbol, item_symbols, field_symbols, packet_symbols, function_symbols, text_symbols};
 
-use crate::role::Kind;
+use crate::role::Symbol;
 use domino_tree::{Function, Item, PacketDecl, Program};
 use mp5_words::Name;
 use std::alloc::{AllocError, Global};
 use std::marker::Model;
 
-/// A name of a program, and what it is declared as.
+/// A declared name of a program, and what it stands for.
 #[derive(Drop)]
 pub(crate) struct Declaration<'a> {
     name: &'a Name,
-    kind: Kind,
+    symbol: Symbol,
 }
 
 impl<'a> Model for Declaration<'a> {
-    ghost use Rattle.domino_check.specs.Declarations.{Declaration as DeclarationOf};
+    ghost use Rattle.domino_check.specs.Symbols.{Named};
 
-    ghost Value = { DeclarationOf };
+    ghost Value = { Named };
 
-    ghost view = { λ d. record { name = d.name.now; kind = d.kind } };
+    ghost view = { λ d. record { name = d.name.now; symbol = d.symbol } };
 }
 
 impl<'a> Declaration<'a> {
@@ -33,59 +32,93 @@ impl<'a> Declaration<'a> {
         self.name
     }
 
-    /// What it is declared as.
-    pub(crate) fn kind(&self) -> Kind
-        ensures { result ≡ self.now.kind }
+    /// What it stands for.
+    pub(crate) fn symbol(&self) -> Symbol
+        ensures { result ≡ self.now.symbol }
     {
-        self.kind
+        self.symbol
     }
 }
 
-// A declaration at the end of the list.
-fn push<'a>(out: &mut Vec<Declaration<'a>>, name: &'a Name, kind: Kind) -> Result<(), AllocError>
-    ensures { OnOk result (out.new.items ≡ out.old.items ++ record { name = name.now; kind = kind } ∷ []) }
+// A declared name at the end of the list.
+fn push<'a>(
+    out: &mut Vec<Declaration<'a>>,
+    name: &'a Name,
+    symbol: Symbol,
+) -> Result<(), AllocError>
+    ensures { OnOk result (out.new.items ≡ out.old.items ++ record { name = name.now; symbol = symbol } ∷ []) }
 {
-    out.push(Declaration { name, kind })?;
+    out.push(Declaration { name, symbol })?;
     Ok(())
 }
 
-fn push_item<'a>(out: &mut Vec<Declaration<'a>>, item: &'a Item) -> Result<(), AllocError>
-    ensures { OnOk result (out.new.items ≡ out.old.items ++ item_declaration item.now ∷ []) }
+// What an item declares, where so many arrays are declared before. Gives the number of the next array.
+fn push_item<'a>(
+    out: &mut Vec<Declaration<'a>>,
+    arrays: usize,
+    item: &'a Item,
+) -> Result<usize, AllocError>
+    requires { arrays + 1 < 2 ^ 64 }
+    ensures pushed { OnOk result (out.new.items ≡ out.old.items ++ item_symbol arrays item.now ∷ []) }
+    ensures next { IfOk result (λ next. next ≡ next_array arrays item.now) }
+    ensures within { IfOk result (λ next. next ≤ arrays + 1) }
 {
     match item {
-        Item::Define { name, .. } => push(out, name, Kind::Define),
+        Item::Define { name, value } => {
+            push(out, name, Symbol::Define(*value))?;
+            Ok(arrays)
+        }
         Item::Array {
             name,
             length: None,
             ..
-        } => push(out, name, Kind::Scalar),
-        Item::Array { name, .. } => push(out, name, Kind::Array),
+        } => {
+            push(out, name, Symbol::Scalar(arrays))?;
+            Ok(arrays + 1)
+        }
+        Item::Array {
+            name,
+            length: Some(_),
+            ..
+        } => {
+            push(out, name, Symbol::Array(arrays))?;
+            Ok(arrays + 1)
+        }
     }
 }
 
-fn push_items<'a>(out: &mut Vec<Declaration<'a>>, items: &'a [Item]) -> Result<(), AllocError>
-    ensures { OnOk result (out.new.items ≡ out.old.items ++ map item_declaration items.now) }
+// What these items declare, where so many arrays are declared before. Gives the number of the next array.
+fn push_items<'a>(
+    out: &mut Vec<Declaration<'a>>,
+    arrays: usize,
+    items: &'a [Item],
+) -> Result<usize, AllocError>
+    requires { arrays + length items.now < 2 ^ 64 }
+    ensures pushed { OnOk result (out.new.items ≡ out.old.items ++ item_symbols arrays items.now) }
+    ensures next { IfOk result (λ next. next ≡ arrays_after arrays items.now) }
+    ensures within { IfOk result (λ next. next ≤ arrays + length items.now) }
 {
+    let mut next = arrays;
     for item in items {
-        push_item(out, item)?;
+        next = push_item(out, next, item)?;
     }
-    Ok(())
+    Ok(next)
 }
 
 fn push_fields<'a>(out: &mut Vec<Declaration<'a>>, fields: &'a [Name]) -> Result<(), AllocError>
-    ensures { OnOk result (out.new.items ≡ out.old.items ++ all_as kind.Field fields.now) }
+    ensures { OnOk result (out.new.items ≡ out.old.items ++ field_symbols 0 fields.now) }
 {
-    for field in fields {
-        push(out, field, Kind::Field)?;
+    for (place, field) in fields.iter().enumerate() {
+        push(out, field, Symbol::Field(place))?;
     }
     Ok(())
 }
 
 // The struct's name, and the fields.
 fn push_packet<'a>(out: &mut Vec<Declaration<'a>>, packet: &'a PacketDecl) -> Result<(), AllocError>
-    ensures { OnOk result (out.new.items ≡ out.old.items ++ packet_declarations packet.now) }
+    ensures { OnOk result (out.new.items ≡ out.old.items ++ packet_symbols packet.now) }
 {
-    push(out, &packet.name, Kind::Struct)?;
+    push(out, &packet.name, Symbol::Struct)?;
     push_fields(out, packet.fields.as_slice())
 }
 
@@ -94,23 +127,23 @@ fn push_function<'a>(
     out: &mut Vec<Declaration<'a>>,
     function: &'a Function,
 ) -> Result<(), AllocError>
-    ensures { OnOk result (out.new.items ≡ out.old.items ++ function_declarations function.now) }
+    ensures { OnOk result (out.new.items ≡ out.old.items ++ function_symbols function.now) }
 {
-    push(out, &function.name, Kind::Function)?;
-    push(out, &function.packet, Kind::Packet)
+    push(out, &function.name, Symbol::Function)?;
+    push(out, &function.packet, Symbol::Packet)
 }
 
-/// The declarations of a program, in text order.
+/// The declared names of a program, in text order.
 pub(crate) fn declarations(
     alloc: Global,
     program: &Program,
 ) -> Result<Vec<Declaration<'_>>, AllocError>
-    ensures { IfOk result (λ all. all.items ≡ declarations program.now) }
+    ensures { IfOk result (λ all. all.items ≡ text_symbols program.now) }
 {
     let mut out = Vec::new(alloc);
-    push_items(&mut out, program.before.as_slice())?;
+    let arrays = push_items(&mut out, 0, program.before.as_slice())?;
     push_packet(&mut out, &program.packet)?;
-    push_items(&mut out, program.after.as_slice())?;
+    push_items(&mut out, arrays, program.after.as_slice())?;
     push_function(&mut out, &program.function)?;
     Ok(out)
 }

@@ -6,8 +6,8 @@ ghost use Rattle.domino_check.specs.First.{FirstFault, NoFault};
 ghost use Rattle.domino_check.specs.Infos.{array_of};
 ghost use Rattle.domino_check.specs.Indexes.{IndexDiffersAt, IsOther, AreIndexes, AreBelow, AllKeep, Agrees, index_of, indexes_of, noted, array_name};
 
+use crate::copies::copy_name;
 use crate::fault::CheckFault;
-use crate::kind_table::copy_name;
 use crate::numbered::{ArrayInfo, CheckedExpr, same};
 use crate::translation::Access;
 use sqlite_items::Items;

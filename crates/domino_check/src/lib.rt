@@ -4,12 +4,11 @@
 
 mod all_checks;
 mod checked;
+mod copies;
 mod declarations;
-mod define_table;
 mod fault;
 mod indexes;
 mod infos;
-mod kind_table;
 mod name_checks;
 mod numbered;
 mod parts;
@@ -17,6 +16,7 @@ mod role;
 mod scope;
 mod sites;
 mod size_checks;
+mod symbol_table;
 mod translation;
 mod uses;
 

@@ -1,58 +1,61 @@
 //! The checks of the names and the calls of a program.
 
-ghost use Rattle.std.specs.Prelude.{◌≡◌, ◌≢◌, ◌++◌, OnOk, IfOk, IfErr};
+ghost use Rattle.std.specs.Prelude.{◌≡◌, ◌≢◌, ◌++◌, map, OnOk, IfOk, IfErr};
 ghost use Rattle.domino_check.specs.declared.fault.CheckFault.TheVariants.{NoMemory};
 ghost use Rattle.domino_check.specs.Checks.{TwiceAt, UnknownAt, WrongKindAt, ArityAt, kind_for, is_misused, is_miscalled, arity};
-ghost use Rattle.domino_check.specs.Declarations.{hash_declarations};
 ghost use Rattle.domino_check.specs.First.{FirstFault, NoFault};
-ghost use Rattle.domino_check.specs.KindTable.{kind_at, Holds};
+ghost use Rattle.domino_check.specs.Symbols.{declaration_of, kinds_from, hash_symbols};
 
+use crate::copies::copy_name;
 use crate::declarations::Declaration;
 use crate::fault::CheckFault;
-use crate::kind_table::{Kinds, copy_name, declare, hash_kinds, kind_of};
 use crate::role::{Kind, Role};
+use crate::symbol_table::Symbols;
 use crate::uses::Use;
 use domino_tree::hash_kind;
 use mp5_words::Name;
 use std::alloc::Global;
 
-/// The kinds of all declared names, each declared once in its class.
-pub(crate) fn kinds_of<'a>(
+/// The table of all declared names, each declared once in its class.
+pub(crate) fn symbols_of<'a>(
     alloc: Global,
     declarations: &[Declaration<'a>],
-) -> Result<Kinds<'a>, CheckFault>
-    ensures table { IfOk result (λ kinds. Holds kinds (hash_declarations ++ declarations.now)) }
-    ensures passes { OnOk result (NoFault TwiceAt declarations.now) }
-    ensures refuses { IfErr result (λ f. f ≢ NoMemory → FirstFault TwiceAt declarations.now f) }
+) -> Result<Symbols<'a>, CheckFault>
+    ensures table { IfOk result (λ symbols. symbols ≡ hash_symbols ++ declarations.now) }
+    ensures passes { OnOk result (NoFault TwiceAt (map declaration_of declarations.now)) }
+    ensures refuses { IfErr result (λ f. f ≢ NoMemory → FirstFault TwiceAt (map declaration_of declarations.now) f) }
 {
-    let mut kinds = hash_kinds(alloc)?;
+    let mut symbols = Symbols::new(alloc)?;
     for declaration in declarations {
         let name = declaration.name();
-        if !declare(&mut kinds, name.bytes(), declaration.kind())? {
+        if !symbols.declare(name.bytes(), declaration.symbol())? {
             return Err(CheckFault::Twice(copy_name(alloc, name)?));
         }
     }
-    Ok(kinds)
+    Ok(symbols)
 }
 
 // The kind that the name of a use is declared as.
-fn kind_for(kinds: &Kinds<'_>, used: &Use<'_>) -> Option<Kind>
-    ensures { result ≡ kind_for (kind_at kinds.now) used.now }
+fn kind_for(symbols: &Symbols<'_>, used: &Use<'_>) -> Option<Kind>
+    ensures { result ≡ kind_for (kinds_from symbols.now) used.now }
 {
-    kind_of(kinds, used.role().class(), used.name())
+    match symbols.get(used.role().class(), used.name().bytes()) {
+        Some(symbol) => Some(symbol.kind()),
+        None => None,
+    }
 }
 
 /// Whether each used name is declared in its class.
 pub(crate) fn check_known(
     alloc: Global,
     uses: &[Use<'_>],
-    kinds: &Kinds<'_>,
+    symbols: &Symbols<'_>,
 ) -> Result<(), CheckFault>
-    ensures passes { OnOk result (NoFault (UnknownAt (kind_at kinds.now)) uses.now) }
-    ensures refuses { IfErr result (λ f. f ≢ NoMemory → FirstFault (UnknownAt (kind_at kinds.now)) uses.now f) }
+    ensures passes { OnOk result (NoFault (UnknownAt (kinds_from symbols.now)) uses.now) }
+    ensures refuses { IfErr result (λ f. f ≢ NoMemory → FirstFault (UnknownAt (kinds_from symbols.now)) uses.now f) }
 {
     for used in uses {
-        if kind_for(kinds, used).is_none() {
+        if kind_for(symbols, used).is_none() {
             return Err(CheckFault::Unknown(copy_name(alloc, used.name())?));
         }
     }
@@ -73,13 +76,13 @@ fn is_misused(role: Role, kind: Option<Kind>) -> bool
 pub(crate) fn check_kinds(
     alloc: Global,
     uses: &[Use<'_>],
-    kinds: &Kinds<'_>,
+    symbols: &Symbols<'_>,
 ) -> Result<(), CheckFault>
-    ensures passes { OnOk result (NoFault (WrongKindAt (kind_at kinds.now)) uses.now) }
-    ensures refuses { IfErr result (λ f. f ≢ NoMemory → FirstFault (WrongKindAt (kind_at kinds.now)) uses.now f) }
+    ensures passes { OnOk result (NoFault (WrongKindAt (kinds_from symbols.now)) uses.now) }
+    ensures refuses { IfErr result (λ f. f ≢ NoMemory → FirstFault (WrongKindAt (kinds_from symbols.now)) uses.now f) }
 {
     for used in uses {
-        if is_misused(used.role(), kind_for(kinds, used)) {
+        if is_misused(used.role(), kind_for(symbols, used)) {
             return Err(CheckFault::WrongKind(copy_name(alloc, used.name())?));
         }
     }

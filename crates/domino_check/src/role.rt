@@ -96,6 +96,48 @@ impl Kind {
     }
 }
 
+/// What a declared name stands for. Arrays are numbered in order of declaration, and so are fields.
+#[derive(Clone, Copy)]
+pub(crate) enum Symbol {
+    /// A field of the packet, by its number.
+    Field(usize),
+    /// The packet's struct.
+    Struct,
+    /// A number.
+    Define(i32),
+    /// A register, by its number among the arrays.
+    Scalar(usize),
+    /// A register array, by its number.
+    Array(usize),
+    /// The function.
+    Function,
+    /// The function's packet.
+    Packet,
+    /// A hash function.
+    Hash,
+}
+
+impl Symbol {
+    ghost use Rattle.std.specs.Prelude.{◌≡◌};
+    ghost use Rattle.domino_check.specs.Symbols.{kind_of};
+
+    /// The kind of what the name stands for.
+    pub(crate) fn kind(self) -> Kind
+        ensures { result ≡ kind_of self }
+    {
+        match self {
+            Symbol::Field(_) => Kind::Field,
+            Symbol::Struct => Kind::Struct,
+            Symbol::Define(_) => Kind::Define,
+            Symbol::Scalar(_) => Kind::Scalar,
+            Symbol::Array(_) => Kind::Array,
+            Symbol::Function => Kind::Function,
+            Symbol::Packet => Kind::Packet,
+            Symbol::Hash => Kind::Hash,
+        }
+    }
+}
+
 /// A set of names in which each is declared once.
 #[derive(Clone, Copy, Debug, PartialEq, Eq, Hash)]
 pub(crate) enum Class {

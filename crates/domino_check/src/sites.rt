@@ -10,8 +10,8 @@ ghost use Rattle.domino_check.specs.NumberedMeaning.{numbered_arrays};
 ghost use Rattle.domino_check.specs.Sites.{Site, mentions, index_mentions, IndexMovesAt, NoneMoves};
 ghost use Rattle.domino_check.specs.Touches.{stmt_touches, arm_touches, touches_of, joined_touches, touch_of, IsFirstMoved, NoneMoved, MovedBy};
 
+use crate::copies::copy_name;
 use crate::fault::CheckFault;
-use crate::kind_table::copy_name;
 use crate::numbered::{ArrayInfo, CheckedArm, CheckedExpr, CheckedStmt};
 use sqlite_items::Items;
 use std::alloc::{AllocError, Global};

@@ -1,15 +1,15 @@
 //! The checks of lengths and counts.
 
 ghost use Rattle.std.specs.Prelude.{◌≡◌, ◌≢◌, ◌++◌, ◌+◌, ◌*◌, ◌≤◌, ◌<◌, ◌^◌, ℕ, List, length, sum, map, flat_map, OnOk, IfOk, IfErr, IsTrue, false, nat_lt};
-ghost use Rattle.domino_tree.specs.Value.{Defined, Array, item_define, item_array, names_of, length_value};
+ghost use Rattle.domino_tree.specs.Value.{Defined, Array, item_define, item_array, names_of, size_value, length_value};
 ghost use Rattle.domino_check.specs.declared.fault.CheckFault.TheVariants.{NoMemory, TooMany};
 ghost use Rattle.domino_check.specs.Checks.{BadLengthAt, FirstBadLength, NoBadLength, FirstTooMany, NoTooMany, bad_of, bad_length, item_name, limit};
 ghost use Rattle.domino_check.specs.First.{FirstFault, NoFault};
-ghost use Rattle.domino_check.specs.DefineTable.{Numbers as HasNumbers};
+ghost use Rattle.domino_check.specs.Symbols.{Numbers};
 
-use crate::define_table::{Numbers, size_number};
+use crate::copies::copy_name;
 use crate::fault::{CheckFault, What};
-use crate::kind_table::copy_name;
+use crate::symbol_table::Symbols;
 use domino_tree::{Item, Program, Size};
 use mp5_words::Name;
 use std::alloc::{AllocError, Global};
@@ -28,15 +28,25 @@ fn bad_of(length: i32) -> Option<i32>
     }
 }
 
+/// The number of a size; 0 where its name isn't defined.
+pub(crate) fn size_number(symbols: &Symbols<'_>, size: &Size) -> i32
+    ensures { (defines : List Defined) → Numbers symbols.now defines → result ≡ size_value defines size.now }
+{
+    match size {
+        Size::Number(number) => *number,
+        Size::Word(name) => symbols.number_of(name).unwrap_or(0),
+    }
+}
+
 // The length that an item declares, where it is such a one.
-fn bad_length(numbers: &Numbers<'_>, item: &Item) -> Option<i32>
-    ensures { (defines : List Defined) → HasNumbers numbers.now defines → result ≡ bad_length defines item.now }
+fn bad_length(symbols: &Symbols<'_>, item: &Item) -> Option<i32>
+    ensures { (defines : List Defined) → Numbers symbols.now defines → result ≡ bad_length defines item.now }
 {
     match item {
         Item::Array {
             length: Some(size),
             ..
-        } => bad_of(size_number(numbers, size)),
+        } => bad_of(size_number(symbols, size)),
         Item::Array { length: None, .. } | Item::Define { .. } => None,
     }
 }
@@ -51,12 +61,12 @@ fn item_name(item: &Item) -> &Name
 }
 
 // Whether each length that these items declare is from 1 to 65,536.
-fn check_items(alloc: Global, items: &[Item], numbers: &Numbers<'_>) -> Result<(), CheckFault>
-    ensures passes { (defines : List Defined) → HasNumbers numbers.now defines → OnOk result (NoFault (BadLengthAt defines) items.now) }
-    ensures refuses { (defines : List Defined) → HasNumbers numbers.now defines → IfErr result (λ f. f ≢ NoMemory → FirstFault (BadLengthAt defines) items.now f) }
+fn check_items(alloc: Global, items: &[Item], symbols: &Symbols<'_>) -> Result<(), CheckFault>
+    ensures passes { (defines : List Defined) → Numbers symbols.now defines → OnOk result (NoFault (BadLengthAt defines) items.now) }
+    ensures refuses { (defines : List Defined) → Numbers symbols.now defines → IfErr result (λ f. f ≢ NoMemory → FirstFault (BadLengthAt defines) items.now f) }
 {
     for item in items {
-        if let Some(length) = bad_length(numbers, item) {
+        if let Some(length) = bad_length(symbols, item) {
             let name = copy_name(alloc, item_name(item))?;
             return Err(CheckFault::BadLength(name, length));
         }
@@ -68,14 +78,14 @@ fn check_items(alloc: Global, items: &[Item], numbers: &Numbers<'_>) -> Result<(
 pub(crate) fn check_lengths(
     alloc: Global,
     program: &Program,
-    numbers: &Numbers<'_>,
+    symbols: &Symbols<'_>,
 ) -> Result<(), CheckFault>
-    requires { HasNumbers numbers.now (names_of program.now).defines }
+    requires { Numbers symbols.now (names_of program.now).defines }
     ensures passes { OnOk result (NoBadLength program.now) }
     ensures refuses { IfErr result (λ f. f ≢ NoMemory → FirstBadLength program.now f) }
 {
-    check_items(alloc, program.before.as_slice(), numbers)?;
-    check_items(alloc, program.after.as_slice(), numbers)
+    check_items(alloc, program.before.as_slice(), symbols)?;
+    check_items(alloc, program.after.as_slice(), symbols)
 }
 
 // The most that there may be.
@@ -116,23 +126,23 @@ fn define_count(items: &[Item]) -> usize
 }
 
 /// How many cells an array of this declared length has; a register has one.
-pub(crate) fn length_of(numbers: &Numbers<'_>, length: &Option<Size>) -> u32
-    ensures { (defines : List Defined) → HasNumbers numbers.now defines → result ≡ length_value defines length.now }
+pub(crate) fn length_of(symbols: &Symbols<'_>, length: &Option<Size>) -> u32
+    ensures { (defines : List Defined) → Numbers symbols.now defines → result ≡ length_value defines length.now }
 {
     match length {
         None => 1,
-        Some(size) => u32::try_from(size_number(numbers, size)).unwrap_or(0),
+        Some(size) => u32::try_from(size_number(symbols, size)).unwrap_or(0),
     }
 }
 
 // How many cells the array has that an item declares, if it does.
-fn push_length(numbers: &Numbers<'_>, item: &Item, lengths: &mut Vec<u32>) -> Result<(), AllocError>
-    ensures { (defines : List Defined) → HasNumbers numbers.now defines → OnOk result (lengths.new.items ≡ lengths.old.items ++ map (λ (a : Array). a.length) (item_array defines item.now)) }
+fn push_length(symbols: &Symbols<'_>, item: &Item, lengths: &mut Vec<u32>) -> Result<(), AllocError>
+    ensures { (defines : List Defined) → Numbers symbols.now defines → OnOk result (lengths.new.items ≡ lengths.old.items ++ map (λ (a : Array). a.length) (item_array defines item.now)) }
 {
     match item {
         Item::Define { .. } => Ok(()),
         Item::Array { length, .. } => {
-            lengths.push(length_of(numbers, length))?;
+            lengths.push(length_of(symbols, length))?;
             Ok(())
         }
     }
@@ -140,14 +150,14 @@ fn push_length(numbers: &Numbers<'_>, item: &Item, lengths: &mut Vec<u32>) -> Re
 
 // How many cells each of the arrays that these items declare has.
 fn push_lengths(
-    numbers: &Numbers<'_>,
+    symbols: &Symbols<'_>,
     items: &[Item],
     lengths: &mut Vec<u32>,
 ) -> Result<(), AllocError>
-    ensures { (defines : List Defined) → HasNumbers numbers.now defines → OnOk result (lengths.new.items ≡ lengths.old.items ++ map (λ (a : Array). a.length) (flat_map (item_array defines) items.now)) }
+    ensures { (defines : List Defined) → Numbers symbols.now defines → OnOk result (lengths.new.items ≡ lengths.old.items ++ map (λ (a : Array). a.length) (flat_map (item_array defines) items.now)) }
 {
     for item in items {
-        push_length(numbers, item, lengths)?;
+        push_length(symbols, item, lengths)?;
     }
     Ok(())
 }
@@ -168,9 +178,9 @@ fn total(lengths: &[u32]) -> u64
 pub(crate) fn check_counts(
     alloc: Global,
     program: &Program,
-    numbers: &Numbers<'_>,
+    symbols: &Symbols<'_>,
 ) -> Result<(), CheckFault>
-    requires { HasNumbers numbers.now (names_of program.now).defines }
+    requires { Numbers symbols.now (names_of program.now).defines }
     ensures passes { OnOk result (NoTooMany program.now) }
     ensures refuses { IfErr result (λ f. f ≢ NoMemory → FirstTooMany program.now f) }
 {
@@ -180,8 +190,8 @@ pub(crate) fn check_counts(
     check_count(What::Defines, defines)?;
     check_count(What::Fields, program.packet.fields.len() as u64)?;
     let mut lengths = Vec::new(alloc);
-    push_lengths(numbers, before, &mut lengths)?;
-    push_lengths(numbers, after, &mut lengths)?;
+    push_lengths(symbols, before, &mut lengths)?;
+    push_lengths(symbols, after, &mut lengths)?;
     check_count(What::Arrays, lengths.len() as u64)?;
     check_count(What::Cells, total(&lengths))
 }

@@ -5,7 +5,7 @@ use Rattle.domino_check.proofs.all_checks.check_sizes.Goals as goal
 
 pub returns-in_err-check_lengths-clause-refuses : goal.returns-in_err-check_lengths-clause-refuses
 returns-in_err-check_lengths-clause-refuses c =
-    let e = err_from_is_err_and c.from_residual-in_err-check_lengths.result c.from_residual-in_err-check_lengths.ensures.1 in
+    let e = err_from_is_err_and c.from_residual.result c.from_residual.ensures.1 in
     rw e.1 (λ n. inl (subst (FirstBadLength c.args.program.now) (sym e.2) (c.in_err-check_lengths.ensures.refuses (λ m. n (e.2 ∙ m)))))
 
 pub returns-clause-passes : goal.returns-clause-passes

@@ -1,7 +1,11 @@
--- the declarations of the items so far
-use Rattle.std.proofs.Common.{◌≡◌, ◌++◌, map, take}
-use Rattle.domino_check.specs.Declarations.{item_declaration}
+-- the declarations of the items so far, and the number of the next array
+use Rattle.std.proofs.Common.{◌≡◌, ◌≤◌, ◌+◌, ◌++◌, take}
+use Rattle.domino_check.specs.Symbols.{arrays_after, item_symbols}
 use Rattle.domino_check.proofs.declarations.push_items.Given as goal
 
 abbrev pub invariant-loop-item : goal.invariant-loop-item
-invariant-loop-item l = l.out.items ≡ l.initial.out.items ++ map item_declaration (take l.item-index l.items)
+invariant-loop-item l = record {
+  pushed : l.out.items ≡ l.initial.out.items ++ item_symbols l.arrays (take l.item-index l.items);
+  next : l.next ≡ arrays_after l.arrays (take l.item-index l.items);
+  within : l.next ≤ l.arrays + l.item-index;
+}

@@ -7,8 +7,11 @@ use Rattle.domino_check.specs.Numbering.{numbered_body}
 use Rattle.domino_check.specs.Sites.{IndexMovesAt, FirstIndexMoves, NoneMoves, program_sites}
 use Rattle.domino_check.specs.Touches.{touches_of}
 use Rattle.domino_check.proofs.SiteForms.{sites_kept}
-use Rattle.domino_check.proofs.PartsLemmas.{few_fields_of, few_arrays_of, below_of, accesses_of, table_of, same_length, sites_at, keeps_of}
+use Rattle.domino_check.proofs.PartsLemmas.{few_fields_of, few_arrays_of, below_of, accesses_of, table_of, same_length, sites_at, keeps_of, numbers_of}
 use Rattle.domino_check.proofs.parts.parts_of.Goals as goal
+
+pub infos_of-requires : goal.infos_of-requires
+infos_of-requires c = numbers_of c.args.program.now c.args.symbols.now c.requires.symbols c.requires.names.once
 
 pub number_body-requires-clause-few_fields : goal.number_body-requires-clause-few_fields
 number_body-requires-clause-few_fields c = few_fields_of c.args.program.now c.requires.sizes.few

@@ -1,10 +1,10 @@
-use Rattle.std.proofs.Common.{sym, ap, ◌∙◌}
-use Rattle.domino_tree.specs.Value.{Names, place_of, array_number}
-use Rattle.domino_check.proofs.ScopeLemmas.{array_names}
+use Rattle.std.proofs.Common.{rules, length, ap, ◌∙◌}
+use Rattle.std.specs.Option.{unwrap_or}
+use Rattle.domino_check.proofs.ScopeLemmas.{array_within}
 use Rattle.domino_check.proofs.scope.Scope.array_number.Goals as goal
 
-pub returns : goal.returns
-returns c =
-    c.place_of_array.ensures.place
-    ∙ ap (place_of c.args.name.now) (sym (array_names c.self.inside.arrays.now))
-    ∙ ap (λ (names : Names). array_number names c.args.name.now) c.self.view_is
+pub overflow_cast-result : goal.overflow_cast-result
+overflow_cast-result c =
+    let s = c.self.inside in
+    let few = array_within s.symbols.now s.fields.now s.arrays.now c.self.invariant c.args.name.now c.unwrap_or.result (c.unwrap_or.ensures ∙ ap (λ o. unwrap_or o (length s.arrays.now)) c.array.ensures) in
+    search rules
