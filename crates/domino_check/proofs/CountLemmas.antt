@@ -4,7 +4,7 @@ use Rattle.std.proofs.lemmas.List.{flat_map_more, take_more, map-append, length-
 use Rattle.std.proofs.lemmas.Grind.{flat_map-append}
 use Rattle.domino_tree.specs.declared.program.Item.{Item}
 use Rattle.domino_tree.specs.declared.program.Program.{Program}
-use Rattle.domino_tree.specs.Value.{Array, Names, item_define, item_array, names_of}
+use Rattle.domino_tree.specs.Value.{Defined, Array, Names, item_define, item_array, names_of}
 use Rattle.domino_check.specs.declared.fault.What.{What}
 use Rattle.domino_check.specs.declared.fault.What.TheVariants as what
 use Rattle.domino_check.specs.declared.fault.CheckFault.{CheckFault}
@@ -50,16 +50,17 @@ defines_counted p xs ys m n first second one two =
     ∙ ap length (sym (flat_map-append item_define p.before p.after))
 
 -- the lengths of the arrays of a program, from its two lists of items
-pub lengths_counted : (p : Program) (xs ys : List Item) (start middle end : List ℕ) → xs ≡ p.before → ys ≡ p.after → start ≡ []
-    → middle ≡ start ++ map (λ (a : Array). a.length) (flat_map (item_array (names_of p).defines) xs)
-    → end ≡ middle ++ map (λ (a : Array). a.length) (flat_map (item_array (names_of p).defines) ys)
+pub lengths_counted : (p : Program) (defines : List Defined) → defines ≡ (names_of p).defines → (xs ys : List Item) (start middle end : List ℕ) → xs ≡ p.before → ys ≡ p.after → start ≡ []
+    → middle ≡ start ++ map (λ (a : Array). a.length) (flat_map (item_array defines) xs)
+    → end ≡ middle ++ map (λ (a : Array). a.length) (flat_map (item_array defines) ys)
     → end ≡ map (λ (a : Array). a.length) (names_of p).arrays
-lengths_counted p xs ys start middle end first second none one two =
-    let f = item_array (names_of p).defines in
+lengths_counted p defines same xs ys start middle end first second none one two =
+    let f = item_array defines in
     two
     ∙ (λ i. (one ∙ (λ j. none j ++ lengths_of (flat_map f (first j)))) i ++ lengths_of (flat_map f (second i)))
     ∙ sym (map-append (λ (a : Array). a.length) (flat_map f p.before) (flat_map f p.after))
     ∙ ap lengths_of (sym (flat_map-append f p.before p.after))
+    ∙ ap (λ (d : List Defined). lengths_of (flat_map (item_array d) (p.before ++ p.after))) same
 
 pub arrays_counted : (lengths : List ℕ) (arrays : List Array) → lengths ≡ map (λ (a : Array). a.length) arrays → length lengths ≡ length arrays
 arrays_counted lengths arrays e = ap length e ∙ length-map arrays (λ (a : Array). a.length)

@@ -330,7 +330,7 @@ module _ (p : Program) where
   pub declared_are : map declaration_of (symbols_of p) ≡ declared p
   declared_are = ap (λ (l : List Declaration). hash_declarations ++ l) declarations_are
 
-  defines_of_program : defines_in (symbols_of p) ≡ (names_of p).defines
+  pub defines_of_program : defines_in (symbols_of p) ≡ (names_of p).defines
   defines_of_program =
       defines_items middle 0 p.before
       ∙ ap (λ (l : List Defined). flat_map item_define p.before ++ l) (defines_fields behind 0 p.packet.fields ∙ defines_items last after_before p.after ∙ append-nil (flat_map item_define p.after))

@@ -20,10 +20,10 @@ use Rattle.domino_check.specs.Numbering.{accesses}
 use Rattle.domino_check.specs.Indexes.{AreBelow, AllKeep, index_of, indexes_of}
 use Rattle.domino_check.specs.Sites.{program_indexes}
 use Rattle.domino_check.specs.Refused.{PassesNames, PassesSizes}
-use Rattle.domino_check.specs.Symbols.{Named, Numbers, StandFor, IsScope, names_from, symbols_of}
+use Rattle.domino_check.specs.Symbols.{Named, Numbers, HasNumbers, StandFor, IsScope, names_from, symbols_of}
 use Rattle.domino_check.proofs.BelowLemmas.{accesses_below}
 use Rattle.domino_check.proofs.CheckedLemmas.{infos_are, length-infos}
-use Rattle.domino_check.proofs.OnceLemmas.{names_are, stand_for}
+use Rattle.domino_check.proofs.OnceLemmas.{defines_of_program, names_are, stand_for}
 
 -- ---- counts
 
@@ -129,6 +129,11 @@ pub scope_is : (p : Program) (ds : List Named) (fields : List (List ℕ)) (infos
     → names_from ds fields infos ≡ names_of p
 scope_is p ds fields infos d f i = (λ j. names_from (d j) (f j) infos) ∙ names_are p infos i
 
--- its defined names have their numbers
-pub numbers_of : (p : Program) (ds : List Named) → ds ≡ symbols_of p → NoTwice p → Numbers ds (names_of p).defines
-numbers_of p ds is once = subst (λ (l : List Named). Numbers l (names_of p).defines) (sym is) (stand_for p once).defines
+-- it has the numbers of the defined names
+pub numbers_of : (p : Program) (ds : List Named) → ds ≡ symbols_of p → NoTwice p → HasNumbers ds p
+numbers_of p ds is once =
+    subst (λ (l : List Named). HasNumbers l p) (sym is)
+    (record {
+      numbered = subst (Numbers (symbols_of p)) (sym (defines_of_program p)) (stand_for p once).defines;
+      defines = defines_of_program p;
+    })

@@ -4,6 +4,7 @@ use Rattle.domino_tree.specs.declared.program.Program.{Program}
 use Rattle.domino_check.specs.declared.numbered.ArrayInfo.{ArrayInfo}
 use Rattle.domino_check.specs.declared.numbered.CheckedExpr.{CheckedExpr}
 use Rattle.domino_check.specs.declared.numbered.CheckedStmt.{CheckedStmt}
+use Rattle.domino_check.specs.declared.parts.Parts.{Parts}
 use Rattle.domino_check.specs.Infos.{infos_of}
 use Rattle.domino_check.specs.Numbering.{numbered_body}
 use Rattle.domino_check.specs.Indexes.{HasIndexes}
@@ -32,3 +33,7 @@ pub record IsChecked (p : Program) (fields : List (List ℕ)) (arrays : List Arr
   pub indexes_are : indexes ≡ program_indexes p
   pub keeps : Keeps p
   pub passes : Passes p
+
+-- so they are
+abbrev pub ArePartsOf : Program → Parts → Type 0
+ArePartsOf p parts = IsChecked p parts.fields parts.arrays parts.body parts.indexes

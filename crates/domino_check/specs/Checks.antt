@@ -169,6 +169,10 @@ counted = what.Defines ∷ what.Fields ∷ what.Arrays ∷ what.Cells ∷ []
 abbrev pub TooManyAt : Names → List What → What → CheckFault → Type 0
 TooManyAt names before w f = IsTrue (nat_lt (limit w) (count names w)) × (f ≡ fault.TooMany w (count names w))
 
+-- so many are too many
+abbrev pub IsTooMany : What → ℕ → CheckFault → Type 0
+IsTooMany w n f = IsTrue (nat_lt (limit w) n) × (f ≡ fault.TooMany w n)
+
 abbrev pub FirstTooMany : Program → CheckFault → Type 0
 FirstTooMany p f = FirstFault (TooManyAt (names_of p)) counted f
 

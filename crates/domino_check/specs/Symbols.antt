@@ -1,5 +1,5 @@
 -- What the declared names of a program stand for, and the table that holds them.
-use Rattle.std.specs.Prelude.{◌≡◌, ◌≤◌, ℕ, suc, ℤ, if◌then◌else◌, List, [], ◌∷◌, ◌++◌, length, map, flat_map, Option, Some, None}
+use Rattle.std.specs.Prelude.{◌≡◌, ◌≤◌, ℕ, suc, ℤ, Bool, is_none, if◌then◌else◌, List, [], ◌∷◌, ◌++◌, length, map, flat_map, Option, Some, None}
 use Rattle.std.specs.Option.{unwrap_or}
 use Rattle.std.proofs.Common.{Bor}
 use Rattle.domino_tree.specs.declared.program.Item.{Item}
@@ -7,7 +7,7 @@ use Rattle.domino_tree.specs.declared.program.Item.TheVariants as item
 use Rattle.domino_tree.specs.declared.program.PacketDecl.{PacketDecl}
 use Rattle.domino_tree.specs.declared.program.Function.{Function}
 use Rattle.domino_tree.specs.declared.program.Program.{Program}
-use Rattle.domino_tree.specs.Value.{Defined, Names, number_of, field_number, array_number}
+use Rattle.domino_tree.specs.Value.{Defined, Array, Names, names_of, item_array, number_of, field_number, array_number}
 use Rattle.domino_check.specs.declared.role.Kind.{Kind}
 use Rattle.domino_check.specs.declared.role.Kind.TheVariants as kind
 use Rattle.domino_check.specs.declared.role.Class.{Class}
@@ -15,13 +15,19 @@ use Rattle.domino_check.specs.declared.role.Class.TheVariants as class
 use Rattle.domino_check.specs.declared.role.Symbol.{Symbol}
 use Rattle.domino_check.specs.declared.role.Symbol.TheVariants as symbol
 use Rattle.domino_check.specs.declared.numbered.ArrayInfo.{ArrayInfo}
-use Rattle.domino_check.specs.Infos.{array_of}
+use Rattle.domino_check.specs.Infos.{item_info, array_of}
+use Rattle.domino_check.specs.declared.fault.CheckFault.{CheckFault}
+use Rattle.domino_check.specs.Checks.{BadLengthAt}
 use Rattle.domino_check.specs.Declarations.{Declaration, class_of, declares, hash_names}
 
 -- a declared name, and what it stands for
 pub record Named : Type 0 where
   pub name : List ℕ
   pub symbol : Symbol
+
+-- a name with what it stands for
+abbrev pub stands : List ℕ → Symbol → Named
+stands name s = record { name = name; symbol = s }
 
 -- the kind of what a name stands for
 abbrev pub kind_of : Symbol → Kind
@@ -43,14 +49,22 @@ abbrev pub symbol_in : Class → List ℕ → List Named → Option Symbol
 symbol_in c name [] = None
 symbol_in c name (d ∷ ds) = if declares c name (declaration_of d) then Some d.symbol else symbol_in c name ds
 
+-- a name with what it stands for is new in its class
+abbrev pub is_new : List ℕ → Symbol → List Named → Bool
+is_new name s ds = is_none (symbol_in (class_of (kind_of s)) name ds)
+
+-- the names with one more, where it is new
+abbrev pub with_new : Bool → List Named → List ℕ → Symbol → List Named
+with_new new ds name s = if new then ds ++ stands name s ∷ [] else ds
+
 -- the kind of what a name stands for, where it is declared
 abbrev pub kind_from : Option Symbol → Option Kind
 kind_from None = None
 kind_from (Some s) = Some (kind_of s)
 
 -- the kinds of these names
-abbrev pub kinds_from : List Named → Class → List ℕ → Option Kind
-kinds_from ds c name = kind_from (symbol_in c name ds)
+abbrev pub kinds_at : List Named → Class → List ℕ → Option Kind
+kinds_at ds c name = kind_from (symbol_in c name ds)
 
 -- ---- numbers
 
@@ -86,6 +100,31 @@ defines_in ds = flat_map defined_from ds
 -- the defined names of the table are these
 abbrev pub Numbers : List Named → List Defined → Type 0
 Numbers ds defines = (name : List ℕ) → number_from (symbol_in class.Others name ds) ≡ number_of name defines
+
+-- the table has the number of each of its defined names
+abbrev pub IsNumbered : List Named → Type 0
+IsNumbered ds = Numbers ds (defines_in ds)
+
+-- so it has, and its defined names are those of the program
+pub record HasNumbers (ds : List Named) (p : Program) : Type 0 where
+  pub numbered : IsNumbered ds
+  pub defines : defines_in ds ≡ (names_of p).defines
+
+-- the length that an item declares is not from 1 to 65,536
+abbrev pub BadLengthIn : List Named → List Item → Item → CheckFault → Type 0
+BadLengthIn ds = BadLengthAt (defines_in ds)
+
+-- the length of the array that an item declares, if it does
+abbrev pub item_lengths : List Named → Item → List ℕ
+item_lengths ds i = map (λ (a : Array). a.length) (item_array (defines_in ds) i)
+
+-- the lengths of the arrays that these items declare
+abbrev pub lengths_in : List Named → List Item → List ℕ
+lengths_in ds items = map (λ (a : Array). a.length) (flat_map (item_array (defines_in ds)) items)
+
+-- the arrays that these items declare
+abbrev pub infos_in : List Named → List Item → List ArrayInfo
+infos_in ds items = flat_map (item_info (defines_in ds)) items
 
 -- the names of the table stand for what these names do; a name that is no field's or no array's is past them all
 pub record StandFor (ds : List Named) (names : Names) : Type 0 where

@@ -3,10 +3,11 @@
 ghost use Rattle.std.specs.Prelude.{◌≡◌, ◌≢◌, IfOk, IfErr, OnOk, IsErrAnd};
 ghost use Rattle.domino_check.specs.declared.fault.CheckFault.{CheckFault as Fault};
 ghost use Rattle.domino_check.specs.declared.fault.CheckFault.TheVariants.{NoMemory};
-ghost use Rattle.domino_tree.specs.Value.{names_of};
-ghost use Rattle.domino_check.specs.Accepted.{IsChecked};
-ghost use Rattle.domino_check.specs.Refused.{PassesNames, PassesSizes, Passes, RefusedNames, RefusedSizes, Refused};
-ghost use Rattle.domino_check.specs.Symbols.{Numbers, symbols_of};
+ghost use Rattle.domino_check.specs.Accepted.{ArePartsOf};
+ghost use Rattle.domino_check.specs.First.{IfRefused};
+ghost use Rattle.domino_check.specs.Refused.{PassesNames, PassesSizes, Passes};
+ghost use Rattle.domino_check.specs.Refused.{RefusedNames, RefusedSizes, Refused};
+ghost use Rattle.domino_check.specs.Symbols.{HasNumbers, symbols_of};
 
 use crate::checked::Checked;
 use crate::declarations::declarations;
@@ -23,7 +24,7 @@ use std::alloc::Global;
 fn check_names(alloc: Global, program: &Program) -> Result<Symbols<'_>, CheckFault>
     ensures symbols { IfOk result (λ symbols. symbols ≡ symbols_of program.now) }
     ensures passes { OnOk result (PassesNames program.now) }
-    ensures refuses { IfErr result (λ f. f ≢ NoMemory → RefusedNames program.now f) }
+    ensures refuses { IfRefused result (RefusedNames program.now) }
 {
     let declared = declarations(alloc, program)?;
     let symbols = symbols_of(alloc, &declared)?;
@@ -36,9 +37,9 @@ fn check_names(alloc: Global, program: &Program) -> Result<Symbols<'_>, CheckFau
 
 // The checks of lengths and counts.
 fn check_sizes(alloc: Global, program: &Program, symbols: &Symbols<'_>) -> Result<(), CheckFault>
-    requires { Numbers symbols.now (names_of program.now).defines }
+    requires { HasNumbers symbols.now program.now }
     ensures passes { OnOk result (PassesSizes program.now) }
-    ensures refuses { IfErr result (λ f. f ≢ NoMemory → RefusedSizes program.now f) }
+    ensures refuses { IfRefused result (RefusedSizes program.now) }
 {
     check_lengths(alloc, program, symbols)?;
     check_counts(alloc, program, symbols)
@@ -46,8 +47,8 @@ fn check_sizes(alloc: Global, program: &Program, symbols: &Symbols<'_>) -> Resul
 
 // What a program keeps beside itself, where it passes all checks.
 fn checked_parts(alloc: Global, program: &Program) -> Result<Parts, CheckFault>
-    ensures parts { IfOk result (λ parts. IsChecked program.now parts.fields parts.arrays parts.body parts.indexes) }
-    ensures refused { IfErr result (λ f. f ≢ NoMemory → Refused program.now f) }
+    ensures parts { IfOk result (ArePartsOf program.now) }
+    ensures refused { IfRefused result (Refused program.now) }
 {
     let symbols = check_names(alloc, program)?;
     check_sizes(alloc, program, &symbols)?;
@@ -58,7 +59,7 @@ fn checked_parts(alloc: Global, program: &Program) -> Result<Parts, CheckFault>
 fn check_all(alloc: Global, program: Program) -> Result<Checked, CheckFault>
     ensures read { IfOk result (λ checked. checked ≡ program) }
     ensures passes { OnOk result (Passes program) }
-    ensures refused { IfErr result (λ f. f ≢ NoMemory → Refused program f) }
+    ensures refused { IfRefused result (Refused program) }
 {
     let parts = checked_parts(alloc, &program)?;
     Ok(Checked::new(program, parts))

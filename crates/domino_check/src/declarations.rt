@@ -1,7 +1,9 @@
 //! The declarations of a program, in text order.
 
 ghost use Rattle.std.specs.Prelude.{◌≡◌, ◌≤◌, ◌<◌, ◌+◌, ◌^◌, ◌++◌, ◌∷◌, [], length, IfOk, OnOk};
-ghost use Rattle.domino_check.specs.Symbols.{next_array, arrays_after, item_symbol, item_symbols, field_symbols, packet_symbols, function_symbols, text_symbols};
+ghost use Rattle.domino_check.specs.Symbols.{stands, next_array, arrays_after, item_symbol};
+ghost use Rattle.domino_check.specs.Symbols.{item_symbols, field_symbols, packet_symbols};
+ghost use Rattle.domino_check.specs.Symbols.{function_symbols, text_symbols};
 
 use crate::role::Symbol;
 use domino_tree::{Function, Item, PacketDecl, Program};
@@ -46,20 +48,20 @@ fn push<'a>(
     name: &'a Name,
     symbol: Symbol,
 ) -> Result<(), AllocError>
-    ensures { OnOk result (out.new.items ≡ out.old.items ++ record { name = name.now; symbol = symbol } ∷ []) }
+    ensures { OnOk result (out.new.items ≡ out.old.items ++ stands name.now symbol ∷ []) }
 {
     out.push(Declaration { name, symbol })?;
     Ok(())
 }
 
-// What an item declares, where so many arrays are declared before. Gives the number of the next array.
+// What an item declares, behind so many arrays. Gives the number of the next array.
 fn push_item<'a>(
     out: &mut Vec<Declaration<'a>>,
     arrays: usize,
     item: &'a Item,
 ) -> Result<usize, AllocError>
     requires { arrays + 1 < 2 ^ 64 }
-    ensures pushed { OnOk result (out.new.items ≡ out.old.items ++ item_symbol arrays item.now ∷ []) }
+    ensures list { OnOk result (out.new.items ≡ out.old.items ++ item_symbol arrays item.now ∷ []) }
     ensures next { IfOk result (λ next. next ≡ next_array arrays item.now) }
     ensures within { IfOk result (λ next. next ≤ arrays + 1) }
 {
@@ -87,14 +89,14 @@ fn push_item<'a>(
     }
 }
 
-// What these items declare, where so many arrays are declared before. Gives the number of the next array.
+// What these items declare, behind so many arrays. Gives the number of the next array.
 fn push_items<'a>(
     out: &mut Vec<Declaration<'a>>,
     arrays: usize,
     items: &'a [Item],
 ) -> Result<usize, AllocError>
     requires { arrays + length items.now < 2 ^ 64 }
-    ensures pushed { OnOk result (out.new.items ≡ out.old.items ++ item_symbols arrays items.now) }
+    ensures list { OnOk result (out.new.items ≡ out.old.items ++ item_symbols arrays items.now) }
     ensures next { IfOk result (λ next. next ≡ arrays_after arrays items.now) }
     ensures within { IfOk result (λ next. next ≤ arrays + length items.now) }
 {

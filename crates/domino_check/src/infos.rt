@@ -1,9 +1,9 @@
 //! What the names of a program stand for.
 
-ghost use Rattle.std.specs.Prelude.{◌≡◌, ◌++◌, List, flat_map, OnOk, IfOk};
-ghost use Rattle.domino_tree.specs.Value.{Defined, names_of, start_value};
+ghost use Rattle.std.specs.Prelude.{◌≡◌, ◌++◌, OnOk, IfOk};
+ghost use Rattle.domino_tree.specs.Value.{start_value};
 ghost use Rattle.domino_check.specs.Infos.{item_info, infos_of, is_scalar};
-ghost use Rattle.domino_check.specs.Symbols.{Numbers};
+ghost use Rattle.domino_check.specs.Symbols.{IsNumbered, HasNumbers, defines_in, infos_in};
 
 use crate::copies::copy_name;
 use crate::numbered::ArrayInfo;
@@ -15,7 +15,8 @@ use std::alloc::{AllocError, Global};
 
 // The word that each cell starts at.
 fn start_of(symbols: &Symbols<'_>, start: &Start) -> i32
-    ensures { (defines : List Defined) → Numbers symbols.now defines → result ≡ start_value defines start.now }
+    requires { IsNumbered symbols.now }
+    ensures { result ≡ start_value (defines_in symbols.now) start.now }
 {
     match start {
         Start::Absent => 0,
@@ -30,7 +31,8 @@ fn push_info(
     item: &Item,
     out: &mut Items<ArrayInfo>,
 ) -> Result<(), AllocError>
-    ensures { (defines : List Defined) → Numbers symbols.now defines → OnOk result (out.new ≡ out.old ++ item_info defines item.now) }
+    requires { IsNumbered symbols.now }
+    ensures { OnOk result (out.new ≡ out.old ++ item_info (defines_in symbols.now) item.now) }
 {
     match item {
         Item::Define { .. } => Ok(()),
@@ -54,7 +56,8 @@ fn push_infos(
     items: &[Item],
     out: &mut Items<ArrayInfo>,
 ) -> Result<(), AllocError>
-    ensures { (defines : List Defined) → Numbers symbols.now defines → OnOk result (out.new ≡ out.old ++ flat_map (item_info defines) items.now) }
+    requires { IsNumbered symbols.now }
+    ensures { OnOk result (out.new ≡ out.old ++ infos_in symbols.now items.now) }
 {
     for item in items {
         push_info(alloc, symbols, item, out)?;
@@ -68,7 +71,7 @@ pub(crate) fn infos_of(
     program: &Program,
     symbols: &Symbols<'_>,
 ) -> Result<Items<ArrayInfo>, AllocError>
-    requires { Numbers symbols.now (names_of program.now).defines }
+    requires { HasNumbers symbols.now program.now }
     ensures { IfOk result (λ infos. infos ≡ infos_of program.now) }
 {
     let mut out = Items::new(alloc);

@@ -1,10 +1,10 @@
 //! The checks of the names and the calls of a program.
 
-ghost use Rattle.std.specs.Prelude.{◌≡◌, ◌≢◌, ◌++◌, map, OnOk, IfOk, IfErr};
-ghost use Rattle.domino_check.specs.declared.fault.CheckFault.TheVariants.{NoMemory};
-ghost use Rattle.domino_check.specs.Checks.{TwiceAt, UnknownAt, WrongKindAt, ArityAt, kind_for, is_misused, is_miscalled, arity};
-ghost use Rattle.domino_check.specs.First.{FirstFault, NoFault};
-ghost use Rattle.domino_check.specs.Symbols.{declaration_of, kinds_from, hash_symbols};
+ghost use Rattle.std.specs.Prelude.{◌≡◌, ◌++◌, map, OnOk, IfOk};
+ghost use Rattle.domino_check.specs.Checks.{TwiceAt, UnknownAt, WrongKindAt, ArityAt};
+ghost use Rattle.domino_check.specs.Checks.{kind_for, is_misused, is_miscalled, arity};
+ghost use Rattle.domino_check.specs.First.{FirstFault, NoFault, IfRefused};
+ghost use Rattle.domino_check.specs.Symbols.{declaration_of, kinds_at, hash_symbols};
 
 use crate::copies::copy_name;
 use crate::declarations::Declaration;
@@ -23,7 +23,7 @@ pub(crate) fn symbols_of<'a>(
 ) -> Result<Symbols<'a>, CheckFault>
     ensures table { IfOk result (λ symbols. symbols ≡ hash_symbols ++ declarations.now) }
     ensures passes { OnOk result (NoFault TwiceAt (map declaration_of declarations.now)) }
-    ensures refuses { IfErr result (λ f. f ≢ NoMemory → FirstFault TwiceAt (map declaration_of declarations.now) f) }
+    ensures refuses { IfRefused result (FirstFault TwiceAt (map declaration_of declarations.now)) }
 {
     let mut symbols = Symbols::new(alloc)?;
     for declaration in declarations {
@@ -37,7 +37,7 @@ pub(crate) fn symbols_of<'a>(
 
 // The kind that the name of a use is declared as.
 fn kind_for(symbols: &Symbols<'_>, used: &Use<'_>) -> Option<Kind>
-    ensures { result ≡ kind_for (kinds_from symbols.now) used.now }
+    ensures { result ≡ kind_for (kinds_at symbols.now) used.now }
 {
     match symbols.get(used.role().class(), used.name().bytes()) {
         Some(symbol) => Some(symbol.kind()),
@@ -51,8 +51,8 @@ pub(crate) fn check_known(
     uses: &[Use<'_>],
     symbols: &Symbols<'_>,
 ) -> Result<(), CheckFault>
-    ensures passes { OnOk result (NoFault (UnknownAt (kinds_from symbols.now)) uses.now) }
-    ensures refuses { IfErr result (λ f. f ≢ NoMemory → FirstFault (UnknownAt (kinds_from symbols.now)) uses.now f) }
+    ensures passes { OnOk result (NoFault (UnknownAt (kinds_at symbols.now)) uses.now) }
+    ensures refuses { IfRefused result (FirstFault (UnknownAt (kinds_at symbols.now)) uses.now) }
 {
     for used in uses {
         if kind_for(symbols, used).is_none() {
@@ -78,8 +78,8 @@ pub(crate) fn check_kinds(
     uses: &[Use<'_>],
     symbols: &Symbols<'_>,
 ) -> Result<(), CheckFault>
-    ensures passes { OnOk result (NoFault (WrongKindAt (kinds_from symbols.now)) uses.now) }
-    ensures refuses { IfErr result (λ f. f ≢ NoMemory → FirstFault (WrongKindAt (kinds_from symbols.now)) uses.now f) }
+    ensures passes { OnOk result (NoFault (WrongKindAt (kinds_at symbols.now)) uses.now) }
+    ensures refuses { IfRefused result (FirstFault (WrongKindAt (kinds_at symbols.now)) uses.now) }
 {
     for used in uses {
         if is_misused(used.role(), kind_for(symbols, used)) {
@@ -112,7 +112,7 @@ fn is_miscalled(name: &Name, role: Role) -> bool
 /// Whether each hash function is called with as many arguments as it takes.
 pub(crate) fn check_calls(alloc: Global, uses: &[Use<'_>]) -> Result<(), CheckFault>
     ensures passes { OnOk result (NoFault ArityAt uses.now) }
-    ensures refuses { IfErr result (λ f. f ≢ NoMemory → FirstFault ArityAt uses.now f) }
+    ensures refuses { IfRefused result (FirstFault ArityAt uses.now) }
 {
     for used in uses {
         if is_miscalled(used.name(), used.role()) {

@@ -1,12 +1,13 @@
 //! What a checked program keeps beside itself.
 
-ghost use Rattle.std.specs.Prelude.{◌≡◌, ◌≢◌, ◌≤◌, ◌++◌, length, IfOk, IfErr, OnOk};
-ghost use Rattle.domino_check.specs.declared.fault.CheckFault.TheVariants.{NoMemory};
-ghost use Rattle.domino_check.specs.Accepted.{IsChecked};
+ghost use Rattle.std.specs.Prelude.{◌≡◌, ◌≤◌, ◌++◌, length, IfOk, OnOk};
+ghost use Rattle.domino_check.specs.Accepted.{ArePartsOf};
 ghost use Rattle.domino_check.specs.Checks.{NoTwice};
 ghost use Rattle.domino_check.specs.Infos.{infos_of};
 ghost use Rattle.domino_check.specs.Numbering.{numbered_body, accesses};
-ghost use Rattle.domino_check.specs.Refused.{PassesNames, PassesSizes, PassesIndexes, RefusedIndexes};
+ghost use Rattle.domino_check.specs.First.{IfRefused};
+ghost use Rattle.domino_check.specs.Refused.{PassesNames, PassesSizes, PassesIndexes};
+ghost use Rattle.domino_check.specs.Refused.{RefusedIndexes};
 ghost use Rattle.domino_check.specs.Symbols.{symbols_of};
 
 use crate::copies::copy_names;
@@ -61,9 +62,9 @@ pub(crate) fn parts_of(
     requires symbols { symbols.now ≡ symbols_of program.now }
     requires names { PassesNames program.now }
     requires sizes { PassesSizes program.now }
-    ensures parts { IfOk result (λ parts. IsChecked program.now parts.fields parts.arrays parts.body parts.indexes) }
+    ensures parts { IfOk result (ArePartsOf program.now) }
     ensures passes { OnOk result (PassesIndexes program.now) }
-    ensures refuses { IfErr result (λ f. f ≢ NoMemory → RefusedIndexes program.now f) }
+    ensures refuses { IfRefused result (RefusedIndexes program.now) }
 {
     let arrays = infos_of(alloc, program, symbols)?;
     let mut accesses = Vec::new(alloc);

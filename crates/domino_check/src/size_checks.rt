@@ -1,11 +1,13 @@
 //! The checks of lengths and counts.
 
-ghost use Rattle.std.specs.Prelude.{◌≡◌, ◌≢◌, ◌++◌, ◌+◌, ◌*◌, ◌≤◌, ◌<◌, ◌^◌, ℕ, List, length, sum, map, flat_map, OnOk, IfOk, IfErr, IsTrue, false, nat_lt};
-ghost use Rattle.domino_tree.specs.Value.{Defined, Array, item_define, item_array, names_of, size_value, length_value};
-ghost use Rattle.domino_check.specs.declared.fault.CheckFault.TheVariants.{NoMemory, TooMany};
-ghost use Rattle.domino_check.specs.Checks.{BadLengthAt, FirstBadLength, NoBadLength, FirstTooMany, NoTooMany, bad_of, bad_length, item_name, limit};
-ghost use Rattle.domino_check.specs.First.{FirstFault, NoFault};
-ghost use Rattle.domino_check.specs.Symbols.{Numbers};
+ghost use Rattle.std.specs.Prelude.{◌≡◌, ◌++◌, ◌+◌, ◌*◌, ◌≤◌, ◌<◌, ◌^◌, ℕ, length, sum};
+ghost use Rattle.std.specs.Prelude.{flat_map, OnOk, IfErr, false, nat_lt};
+ghost use Rattle.domino_tree.specs.Value.{item_define, size_value, length_value};
+ghost use Rattle.domino_check.specs.Checks.{FirstBadLength, NoBadLength, FirstTooMany, NoTooMany};
+ghost use Rattle.domino_check.specs.Checks.{IsTooMany, bad_of, bad_length, item_name, limit};
+ghost use Rattle.domino_check.specs.First.{FirstFault, NoFault, IfRefused};
+ghost use Rattle.domino_check.specs.Symbols.{IsNumbered, HasNumbers, BadLengthIn};
+ghost use Rattle.domino_check.specs.Symbols.{defines_in, item_lengths, lengths_in};
 
 use crate::copies::copy_name;
 use crate::fault::{CheckFault, What};
@@ -30,7 +32,8 @@ fn bad_of(length: i32) -> Option<i32>
 
 /// The number of a size; 0 where its name isn't defined.
 pub(crate) fn size_number(symbols: &Symbols<'_>, size: &Size) -> i32
-    ensures { (defines : List Defined) → Numbers symbols.now defines → result ≡ size_value defines size.now }
+    requires { IsNumbered symbols.now }
+    ensures { result ≡ size_value (defines_in symbols.now) size.now }
 {
     match size {
         Size::Number(number) => *number,
@@ -40,7 +43,8 @@ pub(crate) fn size_number(symbols: &Symbols<'_>, size: &Size) -> i32
 
 // The length that an item declares, where it is such a one.
 fn bad_length(symbols: &Symbols<'_>, item: &Item) -> Option<i32>
-    ensures { (defines : List Defined) → Numbers symbols.now defines → result ≡ bad_length defines item.now }
+    requires { IsNumbered symbols.now }
+    ensures { result ≡ bad_length (defines_in symbols.now) item.now }
 {
     match item {
         Item::Array {
@@ -62,8 +66,9 @@ fn item_name(item: &Item) -> &Name
 
 // Whether each length that these items declare is from 1 to 65,536.
 fn check_items(alloc: Global, items: &[Item], symbols: &Symbols<'_>) -> Result<(), CheckFault>
-    ensures passes { (defines : List Defined) → Numbers symbols.now defines → OnOk result (NoFault (BadLengthAt defines) items.now) }
-    ensures refuses { (defines : List Defined) → Numbers symbols.now defines → IfErr result (λ f. f ≢ NoMemory → FirstFault (BadLengthAt defines) items.now f) }
+    requires { IsNumbered symbols.now }
+    ensures passes { OnOk result (NoFault (BadLengthIn symbols.now) items.now) }
+    ensures refuses { IfRefused result (FirstFault (BadLengthIn symbols.now) items.now) }
 {
     for item in items {
         if let Some(length) = bad_length(symbols, item) {
@@ -80,9 +85,9 @@ pub(crate) fn check_lengths(
     program: &Program,
     symbols: &Symbols<'_>,
 ) -> Result<(), CheckFault>
-    requires { Numbers symbols.now (names_of program.now).defines }
+    requires { HasNumbers symbols.now program.now }
     ensures passes { OnOk result (NoBadLength program.now) }
-    ensures refuses { IfErr result (λ f. f ≢ NoMemory → FirstBadLength program.now f) }
+    ensures refuses { IfRefused result (FirstBadLength program.now) }
 {
     check_items(alloc, program.before.as_slice(), symbols)?;
     check_items(alloc, program.after.as_slice(), symbols)
@@ -103,7 +108,7 @@ fn limit(what: What) -> u64
 // Whether there are no more than there may be.
 fn check_count(what: What, count: u64) -> Result<(), CheckFault>
     ensures passes { OnOk result (nat_lt (limit what) count ≡ false) }
-    ensures refuses { IfErr result (λ f. IsTrue (nat_lt (limit what) count) × (f ≡ TooMany what count)) }
+    ensures refuses { IfErr result (IsTooMany what count) }
 {
     if limit(what) < count {
         return Err(CheckFault::TooMany(what, count));
@@ -127,7 +132,8 @@ fn define_count(items: &[Item]) -> usize
 
 /// How many cells an array of this declared length has; a register has one.
 pub(crate) fn length_of(symbols: &Symbols<'_>, length: &Option<Size>) -> u32
-    ensures { (defines : List Defined) → Numbers symbols.now defines → result ≡ length_value defines length.now }
+    requires { IsNumbered symbols.now }
+    ensures { result ≡ length_value (defines_in symbols.now) length.now }
 {
     match length {
         None => 1,
@@ -136,28 +142,26 @@ pub(crate) fn length_of(symbols: &Symbols<'_>, length: &Option<Size>) -> u32
 }
 
 // How many cells the array has that an item declares, if it does.
-fn push_length(symbols: &Symbols<'_>, item: &Item, lengths: &mut Vec<u32>) -> Result<(), AllocError>
-    ensures { (defines : List Defined) → Numbers symbols.now defines → OnOk result (lengths.new.items ≡ lengths.old.items ++ map (λ (a : Array). a.length) (item_array defines item.now)) }
+fn push_length(symbols: &Symbols<'_>, item: &Item, out: &mut Vec<u32>) -> Result<(), AllocError>
+    requires { IsNumbered symbols.now }
+    ensures { OnOk result (out.new.items ≡ out.old.items ++ item_lengths symbols.now item.now) }
 {
     match item {
         Item::Define { .. } => Ok(()),
         Item::Array { length, .. } => {
-            lengths.push(length_of(symbols, length))?;
+            out.push(length_of(symbols, length))?;
             Ok(())
         }
     }
 }
 
 // How many cells each of the arrays that these items declare has.
-fn push_lengths(
-    symbols: &Symbols<'_>,
-    items: &[Item],
-    lengths: &mut Vec<u32>,
-) -> Result<(), AllocError>
-    ensures { (defines : List Defined) → Numbers symbols.now defines → OnOk result (lengths.new.items ≡ lengths.old.items ++ map (λ (a : Array). a.length) (flat_map (item_array defines) items.now)) }
+fn push_lengths(symbols: &Symbols<'_>, items: &[Item], out: &mut Vec<u32>) -> Result<(), AllocError>
+    requires { IsNumbered symbols.now }
+    ensures { OnOk result (out.new.items ≡ out.old.items ++ lengths_in symbols.now items.now) }
 {
     for item in items {
-        push_length(symbols, item, lengths)?;
+        push_length(symbols, item, out)?;
     }
     Ok(())
 }
@@ -180,9 +184,9 @@ pub(crate) fn check_counts(
     program: &Program,
     symbols: &Symbols<'_>,
 ) -> Result<(), CheckFault>
-    requires { Numbers symbols.now (names_of program.now).defines }
+    requires { HasNumbers symbols.now program.now }
     ensures passes { OnOk result (NoTooMany program.now) }
-    ensures refuses { IfErr result (λ f. f ≢ NoMemory → FirstTooMany program.now f) }
+    ensures refuses { IfRefused result (FirstTooMany program.now) }
 {
     let before = program.before.as_slice();
     let after = program.after.as_slice();

@@ -1,9 +1,9 @@
 //! The table of what the names of a program stand for.
 
-ghost use Rattle.std.specs.Prelude.{◌≡◌, ◌++◌, ◌∷◌, [], is_none, IfOk, true};
+ghost use Rattle.std.specs.Prelude.{◌≡◌, IfOk};
 ghost use Rattle.domino_check.specs.declared.role.Class.TheVariants as class;
-ghost use Rattle.domino_check.specs.Declarations.{class_of};
-ghost use Rattle.domino_check.specs.Symbols.{kind_of, symbol_in, number_from, field_from, array_from, hash_symbols};
+ghost use Rattle.domino_check.specs.Symbols.{symbol_in, number_from, field_from, array_from};
+ghost use Rattle.domino_check.specs.Symbols.{is_new, with_new, hash_symbols};
 
 use crate::role::{Class, Symbol};
 use domino_tree::hash_name;
@@ -83,8 +83,8 @@ impl<'a> Symbols<'a> {
 
     /// Declares a name, and says whether it is new in its class; where it isn't, nothing changes.
     pub(crate) fn declare(&mut self, name: &'a [u8], symbol: Symbol) -> Result<bool, AllocError>
-        ensures new { IfOk result (λ new. new ≡ is_none (symbol_in (class_of (kind_of symbol)) name.now self.old)) }
-        ensures held { IfOk result (λ new. new ≡ true → self.new ≡ self.old ++ record { name = name.now; symbol = symbol } ∷ []) }
+        ensures new { IfOk result (λ new. new ≡ is_new name.now symbol self.old) }
+        ensures held { IfOk result (λ new. self.new ≡ with_new new self.old name.now symbol) }
     {
         let class = symbol.kind().class();
         if self.get(class, name).is_some() {

@@ -5,7 +5,7 @@ use Rattle.domino_check.specs.Declarations.{Declaration}
 use Rattle.domino_check.specs.Uses.{Use}
 use Rattle.domino_check.specs.Checks.{TwiceAt, UnknownAt, WrongKindAt, ArityAt}
 use Rattle.domino_check.proofs.AssemblyLemmas.{table_is, table_kinds, at_program}
-use Rattle.domino_check.specs.Symbols.{declaration_of, kinds_from}
+use Rattle.domino_check.specs.Symbols.{declaration_of, kinds_at}
 use Rattle.domino_check.proofs.OnceLemmas.{declarations_are}
 use Rattle.domino_check.proofs.all_checks.check_names.Goals as goal
 
@@ -28,8 +28,8 @@ returns-in_err-check_known-clause-refuses c =
     let uses = c.deref-2.ensures.value ∙ c.in_ok-uses.ensures in
     rw e.1 (λ n. inr (
       once,
-      inl (at_program (λ k us. FirstFault (UnknownAt k) us e.0) p (kinds_from c.in_ok-symbols.symbols) c.deref-2.result.now kinds uses
-          (subst (FirstFault (UnknownAt (kinds_from c.in_ok-symbols.symbols)) c.deref-2.result.now) (sym e.2) (c.in_err-check_known.ensures.refuses (λ m. n (e.2 ∙ m))))),
+      inl (at_program (λ k us. FirstFault (UnknownAt k) us e.0) p (kinds_at c.in_ok-symbols.symbols) c.deref-2.result.now kinds uses
+          (subst (FirstFault (UnknownAt (kinds_at c.in_ok-symbols.symbols)) c.deref-2.result.now) (sym e.2) (c.in_err-check_known.ensures.refuses (λ m. n (e.2 ∙ m))))),
     ))
 
 pub returns-in_err-check_kinds-clause-refuses : goal.returns-in_err-check_kinds-clause-refuses
@@ -40,14 +40,14 @@ returns-in_err-check_kinds-clause-refuses c =
     let declared = ap (map declaration_of) text ∙ declarations_are p in
     let once = subst (NoFault TwiceAt) declared c.in_ok-symbols.ensures.passes in
     let kinds = table_kinds c.in_ok-symbols.symbols p (table_is c.in_ok-symbols.symbols c.deref.result.now p text c.in_ok-symbols.ensures.table) in
-    let known = at_program (λ k us. NoFault (UnknownAt k) us) p (kinds_from c.in_ok-symbols.symbols) c.deref-2.result.now kinds (c.deref-2.ensures.value ∙ c.in_ok-uses.ensures) c.in_ok-check_known.ensures.passes in
+    let known = at_program (λ k us. NoFault (UnknownAt k) us) p (kinds_at c.in_ok-symbols.symbols) c.deref-2.result.now kinds (c.deref-2.ensures.value ∙ c.in_ok-uses.ensures) c.in_ok-check_known.ensures.passes in
     let uses = c.deref-3.ensures.value ∙ c.in_ok-uses.ensures in
     rw e.1 (λ n. inr (
       once,
       inr (
         known,
-        inl (at_program (λ k us. FirstFault (WrongKindAt k) us e.0) p (kinds_from c.in_ok-symbols.symbols) c.deref-3.result.now kinds uses
-            (subst (FirstFault (WrongKindAt (kinds_from c.in_ok-symbols.symbols)) c.deref-3.result.now) (sym e.2) (c.in_err-check_kinds.ensures.refuses (λ m. n (e.2 ∙ m))))),
+        inl (at_program (λ k us. FirstFault (WrongKindAt k) us e.0) p (kinds_at c.in_ok-symbols.symbols) c.deref-3.result.now kinds uses
+            (subst (FirstFault (WrongKindAt (kinds_at c.in_ok-symbols.symbols)) c.deref-3.result.now) (sym e.2) (c.in_err-check_kinds.ensures.refuses (λ m. n (e.2 ∙ m))))),
       ),
     ))
 
@@ -59,8 +59,8 @@ returns-in_err-check_calls-clause-refuses c =
     let declared = ap (map declaration_of) text ∙ declarations_are p in
     let once = subst (NoFault TwiceAt) declared c.in_ok-symbols.ensures.passes in
     let kinds = table_kinds c.in_ok-symbols.symbols p (table_is c.in_ok-symbols.symbols c.deref.result.now p text c.in_ok-symbols.ensures.table) in
-    let known = at_program (λ k us. NoFault (UnknownAt k) us) p (kinds_from c.in_ok-symbols.symbols) c.deref-2.result.now kinds (c.deref-2.ensures.value ∙ c.in_ok-uses.ensures) c.in_ok-check_known.ensures.passes in
-    let kept = at_program (λ k us. NoFault (WrongKindAt k) us) p (kinds_from c.in_ok-symbols.symbols) c.deref-3.result.now kinds (c.deref-3.ensures.value ∙ c.in_ok-uses.ensures) c.in_ok-check_kinds.ensures.passes in
+    let known = at_program (λ k us. NoFault (UnknownAt k) us) p (kinds_at c.in_ok-symbols.symbols) c.deref-2.result.now kinds (c.deref-2.ensures.value ∙ c.in_ok-uses.ensures) c.in_ok-check_known.ensures.passes in
+    let kept = at_program (λ k us. NoFault (WrongKindAt k) us) p (kinds_at c.in_ok-symbols.symbols) c.deref-3.result.now kinds (c.deref-3.ensures.value ∙ c.in_ok-uses.ensures) c.in_ok-check_kinds.ensures.passes in
     let uses = c.deref-4.ensures.value ∙ c.in_ok-uses.ensures in
     rw e.1 (λ n. inr (once, inr (known, inr (kept, subst (FirstFault ArityAt _) (sym e.2) (subst (λ (us : List Use). FirstFault ArityAt us c.in_err-check_calls.field-0.0) uses (c.in_err-check_calls.ensures.refuses (λ m. n (e.2 ∙ m))))))))
 
@@ -76,7 +76,7 @@ returns-clause-passes c =
     let kinds = table_kinds c.in_ok-symbols.symbols p (table_is c.in_ok-symbols.symbols c.deref.result.now p text c.in_ok-symbols.ensures.table) in
     record {
       once = subst (NoFault TwiceAt) declared c.in_ok-symbols.ensures.passes;
-      known = at_program (λ k us. NoFault (UnknownAt k) us) p (kinds_from c.in_ok-symbols.symbols) c.deref-2.result.now kinds (c.deref-2.ensures.value ∙ c.in_ok-uses.ensures) c.in_ok-check_known.ensures.passes;
-      kinds = at_program (λ k us. NoFault (WrongKindAt k) us) p (kinds_from c.in_ok-symbols.symbols) c.deref-3.result.now kinds (c.deref-3.ensures.value ∙ c.in_ok-uses.ensures) c.in_ok-check_kinds.ensures.passes;
+      known = at_program (λ k us. NoFault (UnknownAt k) us) p (kinds_at c.in_ok-symbols.symbols) c.deref-2.result.now kinds (c.deref-2.ensures.value ∙ c.in_ok-uses.ensures) c.in_ok-check_known.ensures.passes;
+      kinds = at_program (λ k us. NoFault (WrongKindAt k) us) p (kinds_at c.in_ok-symbols.symbols) c.deref-3.result.now kinds (c.deref-3.ensures.value ∙ c.in_ok-uses.ensures) c.in_ok-check_kinds.ensures.passes;
       calls = subst (NoFault ArityAt) (c.deref-4.ensures.value ∙ c.in_ok-uses.ensures) c.in_ok-check_calls.ensures.passes;
     }

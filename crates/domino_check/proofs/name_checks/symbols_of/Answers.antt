@@ -32,8 +32,8 @@ loop-declaration-preserved c =
     let twice : is_twice (take i (map declaration_of ds)) (declaration_of d) ≡ not c.in_ok-declare.field-0 =
     twice_is c.loop-declaration.symbols ds i d c.bytes.result.now c.symbol.result c.in_ok-declare.field-0 c.loop-declaration.invariant.held (c.bytes.ensures ∙ c.name-name.ensures) c.symbol.ensures c.in_ok-declare.ensures.new in
     record {
-      held = held_more c.loop-declaration.symbols c.declare.new.self ds i d c.bytes.result.now c.symbol.result c.loop-declaration-test.true c.declaration-item.is
-          c.loop-declaration.invariant.held (c.bytes.ensures ∙ c.name-name.ensures) c.symbol.ensures (c.in_ok-declare.ensures.held c.if-not-branch.false);
+      held = held_more c.loop-declaration.symbols c.declare.new.self ds i d c.bytes.result.now c.symbol.result c.in_ok-declare.field-0 c.if-not-branch.false c.loop-declaration-test.true c.declaration-item.is
+          c.loop-declaration.invariant.held (c.bytes.ensures ∙ c.name-name.ensures) c.symbol.ensures c.in_ok-declare.ensures.held;
       fine = none_more TwiceAt (map declaration_of ds) i (declaration_of d) within here c.loop-declaration.invariant.fine
           (λ g a. true≢false (sym a.0 ∙ twice ∙ ap not c.if-not-branch.false));
     }

@@ -16,7 +16,7 @@ invariant_of-self-2 c =
     rw last (classed_more old.entries entry c.self.invariant (c.class-class.ensures ∙ ap class_of c.kind.ensures))
 
 pub returns-clause-held : goal.returns-clause-held
-returns-clause-held c = λ _.
+returns-clause-held c =
     let old = c.self.inside.table in
     let class = c.class-class.result in
     let name = c.args.name.now in
