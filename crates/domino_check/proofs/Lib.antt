@@ -9,6 +9,7 @@ pub mod SiteLemmas
 pub mod TreeLemmas
 pub mod SiteForms
 pub mod TouchedLemmas
+pub mod ReachedLemmas
 pub mod ArrayLemmas
 pub mod BodyCountLemmas
 pub mod CheckedLemmas

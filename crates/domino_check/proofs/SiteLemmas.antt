@@ -70,7 +70,7 @@ module _ (a : ℕ) where
       ∙ (λ i. set_mark marks b within i || list_any (λ (b : ℕ). b == a) bs)
       ∙ or_three (get_or marks a false) (b == a) (list_any (λ (b : ℕ). b == a) bs)
 
-  marked_at : (sites : List Site) (marks : List Bool) → a < length marks → get_or (marked sites marks) a false ≡ (get_or marks a false || is_touched sites a)
+  pub marked_at : (sites : List Site) (marks : List Bool) → a < length marks → get_or (marked sites marks) a false ≡ (get_or marks a false || is_touched sites a)
   marked_at [] marks within = or_false (get_or marks a false)
   marked_at (x ∷ xs) marks within =
       marked_at xs (touching x.touches marks) (subst (λ n. a < n) (sym (length-touching x.touches marks)) within)

@@ -11,6 +11,7 @@ pub mod Symbols
 pub mod Sites
 pub mod Touches
 pub mod Touched
+pub mod Reached
 pub mod Count
 pub mod Accepted
 pub mod Refused

@@ -6,6 +6,7 @@ ghost use Rattle.domino_check.specs.Indexes.{index_of};
 ghost use Rattle.domino_check.specs.Count.{numbered_count};
 ghost use Rattle.domino_check.specs.Sites.{program_sites, program_indexes, is_touched};
 ghost use Rattle.domino_check.specs.Touched.{TouchesBySites};
+ghost use Rattle.domino_check.specs.Reached.{TouchesReached};
 ghost use Rattle.domino_check.specs.Accepted.{Keeps};
 ghost use Rattle.domino_check.specs.NumberedMeaning.{indexing, numbered_exec, executed_from};
 ghost use Rattle.domino_check.specs.Refused.{Passes};
@@ -103,6 +104,8 @@ impl Checked {
         ensures meaning { (start : State) → numbered_exec (indexing self.now) result.now start ≡ executed_from self.now start }
         // The arrays that are touched then are those of its sites.
         ensures touches { (start : State) (array : ℕ) → array < length start.touched → TouchesBySites self.now start array }
+        // Exactly those that the sites it reaches touch, each of which is one of its sites.
+        ensures reached { (start : State) → TouchesReached self.now start }
         // It counts as much as the source.
         ensures count { numbered_count result.now (program_indexes self.now) ≡ count_of self.now }
     {

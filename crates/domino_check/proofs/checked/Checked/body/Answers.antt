@@ -11,6 +11,7 @@ use Rattle.domino_check.specs.Accepted.{Keeps}
 use Rattle.domino_check.proofs.Agreement.{agreement}
 use Rattle.domino_check.proofs.CheckedLemmas.{length-infos}
 use Rattle.domino_check.proofs.TouchedLemmas.{touches_by_sites}
+use Rattle.domino_check.proofs.ReachedLemmas.{touches_reached}
 use Rattle.domino_check.proofs.FitLemmas.{body_is_fit}
 use Rattle.domino_check.proofs.checked.Checked.body.Goals as goal
 
@@ -41,6 +42,13 @@ returns-clause-touches c =
     let passes = subst Passes c.self.view_is c.self.invariant.passes in
     let keeps = subst Keeps c.self.view_is c.self.invariant.keeps in
     λ start array within. touches_by_sites p start array passes.names keeps.indexed within
+
+pub returns-clause-reached : goal.returns-clause-reached
+returns-clause-reached c =
+    let p = c.args.self.now in
+    let passes = subst Passes c.self.view_is c.self.invariant.passes in
+    let keeps = subst Keeps c.self.view_is c.self.invariant.keeps in
+    λ start. touches_reached p start passes.names keeps.indexed
 
 pub returns-clause-count : goal.returns-clause-count
 returns-clause-count c =
