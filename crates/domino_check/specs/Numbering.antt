@@ -47,6 +47,10 @@ abbrev pub numbered_word : Option ℤ → ℕ → Numbered
 numbered_word (Some n) array = record { tree = expr.Number n; accesses = [] }
 numbered_word None array = record { tree = expr.Cell array; accesses = register_at array ∷ [] }
 
+-- a word among these names
+abbrev pub word_in : Names → List ℕ → Numbered
+word_in names w = numbered_word (number_of w names.defines) (array_number names w)
+
 -- the hash function, where there is one; the checks let no other name be called
 abbrev pub or_two : Option HashKind → HashKind
 or_two None = Two

@@ -76,7 +76,8 @@ pub fn check(alloc: Global, program: Program) -> Result<Checked, CheckFault>
     // The other way round: a program that passes is accepted, and one that a fault refuses is refused by it,
     // each unless memory ran out.
     ensures accepts { Passes program → IfErr result (λ f. f ≡ NoMemory) }
-    ensures refuses { (f : Fault) → Refused program f → IsErrAnd result (λ g. g ≢ NoMemory → g ≡ f) }
+    ensures refuses { (f : Fault) → Refused program f
+        → IsErrAnd result (λ g. g ≢ NoMemory → g ≡ f) }
     // No program is refused by two faults.
     ensures one_refusal { (f g : Fault) → Refused program f → Refused program g → f ≡ g }
 {

@@ -99,11 +99,14 @@ impl Checked {
         ensures body { result.now ≡ numbered_body self.now }
         ensures keeps { Keeps self.now }
         // Each field and array in it is one of the program, and each hash has as many arguments as it takes.
-        ensures fits { body_fits (length self.now.packet.fields) (length (infos_of self.now)) result.now ≡ true }
+        ensures fits { body_fits (length self.now.packet.fields)
+            (length (infos_of self.now)) result.now ≡ true }
         // Executing it is executing the source, with the same touched arrays.
-        ensures meaning { (start : State) → numbered_exec (indexing self.now) result.now start ≡ executed_from self.now start }
+        ensures meaning { (start : State)
+            → numbered_exec (indexing self.now) result.now start ≡ executed_from self.now start }
         // The arrays that are touched then are those of its sites.
-        ensures touches { (start : State) (array : ℕ) → array < length start.touched → TouchesBySites self.now start array }
+        ensures touches { (start : State) (array : ℕ) → array < length start.touched
+            → TouchesBySites self.now start array }
         // Exactly those that the sites it reaches touch, each of which is one of its sites.
         ensures reached { (start : State) → TouchesReached self.now start }
         // It counts as much as the source.
@@ -116,7 +119,8 @@ impl Checked {
     pub fn index(&self, array: u32) -> Option<&CheckedExpr>
         requires { array < length (infos_of self.now) }
         ensures index { option_copied result ≡ index_of (accesses self.now) array }
-        ensures untouched { (option_copied result ≡ None) ↔ (is_touched (program_sites self.now) array ≡ false) }
+        ensures untouched { (option_copied result ≡ None)
+            ↔ (is_touched (program_sites self.now) array ≡ false) }
         // Each field in it is one of the program, no array is in it, and each hash has as many arguments as it takes.
         ensures fits { index_fits (length self.now.packet.fields) (option_copied result) ≡ true }
     {

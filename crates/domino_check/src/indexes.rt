@@ -21,10 +21,13 @@ pub(crate) fn index_table(
     accesses: Vec<Access>,
 ) -> Result<Items<Option<CheckedExpr>>, CheckFault>
     requires { AreBelow (length arrays.now) accesses.items }
-    ensures passes { OnOk result (NoFault (IndexDiffersAt (map array_of arrays.now)) accesses.items) }
+    ensures passes { OnOk result
+        (NoFault (IndexDiffersAt (map array_of arrays.now)) accesses.items) }
     ensures kept { OnOk result (AllKeep (index_of accesses.items) accesses.items) }
     ensures table { IfOk result (λ table. table ≡ indexes_of accesses.items (length arrays.now)) }
-    ensures refuses { IfErr result (λ f. f ≢ fault.NoMemory → FirstFault (IndexDiffersAt (map array_of arrays.now)) accesses.items f) }
+    ensures refuses { IfErr result
+        (λ f. f ≢ fault.NoMemory
+        → FirstFault (IndexDiffersAt (map array_of arrays.now)) accesses.items f) }
 {
     let mut table = no_indexes(alloc, arrays.len())?;
     for access in accesses {
@@ -56,7 +59,8 @@ fn note_index(
     requires { array < length table.old }
     ensures same { IsTrue result ↔ (¬ IsOther (slice_index_or table.old array None) index) }
     ensures agrees { IsTrue result → Agrees (slice_index_or table.old array None) index }
-    ensures kept { IsTrue result → table.new ≡ noted (slice_index_or table.old array None) table.old array index }
+    ensures kept { IsTrue result
+        → table.new ≡ noted (slice_index_or table.old array None) table.old array index }
 {
     let Some(index) = index else { return false };
     if let Some(first) = &table.as_slice()[array] {
@@ -69,7 +73,8 @@ fn note_index(
 // The fault that names the array.
 fn differs(alloc: Global, arrays: &[ArrayInfo], array: usize) -> CheckFault
     requires { array < length arrays.now }
-    ensures { result ≢ fault.NoMemory → result ≡ fault.IndexDiffers (array_name (map array_of arrays.now) array) }
+    ensures { result ≢ fault.NoMemory
+        → result ≡ fault.IndexDiffers (array_name (map array_of arrays.now) array) }
 {
     match copy_name(alloc, &arrays[array].name) {
         Ok(name) => CheckFault::IndexDiffers(name),

@@ -57,7 +57,8 @@ fn push_stmt(alloc: Global, out: &mut Vec<Touch>, stmt: &CheckedStmt) -> Result<
 
 #[cycle(push_sites)]
 fn push_arms(alloc: Global, out: &mut Vec<Touch>, arms: &[CheckedArm]) -> Result<(), AllocError>
-    ensures { OnOk result (out.new.items ≡ out.old.items ++ joined_touches (map arm_touches arms.now)) }
+    ensures { OnOk result
+        (out.new.items ≡ out.old.items ++ joined_touches (map arm_touches arms.now)) }
 {
     for arm in arms {
         push_arm(alloc, out, arm)?;
@@ -80,7 +81,9 @@ fn push_field(
     field: u32,
     expr: &CheckedExpr,
 ) -> Result<(), AllocError>
-    ensures { OnOk result (out.new.items ≡ out.old.items ++ (record { arrays = numbered_arrays expr.now; field = Some field } ∷ [])) }
+    ensures { OnOk result
+        (out.new.items ≡ out.old.items
+        ++ (record { arrays = numbered_arrays expr.now; field = Some field } ∷ [])) }
 {
     let mut read = Items::new(alloc);
     push_arrays(&mut read, expr)?;
@@ -97,7 +100,9 @@ fn push_cell(
     array: u32,
     expr: &CheckedExpr,
 ) -> Result<(), AllocError>
-    ensures { OnOk result (out.new.items ≡ out.old.items ++ (record { arrays = array ∷ numbered_arrays expr.now; field = None } ∷ [])) }
+    ensures { OnOk result
+        (out.new.items ≡ out.old.items
+        ++ (record { arrays = array ∷ numbered_arrays expr.now; field = None } ∷ [])) }
 {
     let mut arrays = Items::new(alloc);
     arrays.push(array)?;
@@ -110,7 +115,9 @@ fn push_cell(
 }
 
 fn push_cond(alloc: Global, out: &mut Vec<Touch>, cond: &CheckedExpr) -> Result<(), AllocError>
-    ensures { OnOk result (out.new.items ≡ out.old.items ++ (record { arrays = numbered_arrays cond.now; field = None } ∷ [])) }
+    ensures { OnOk result
+        (out.new.items ≡ out.old.items
+        ++ (record { arrays = numbered_arrays cond.now; field = None } ∷ [])) }
 {
     let mut arrays = Items::new(alloc);
     push_arrays(&mut arrays, cond)?;
@@ -145,7 +152,8 @@ fn push_arrays(out: &mut Items<u32>, expr: &CheckedExpr) -> Result<(), AllocErro
 
 #[cycle(push_arrays)]
 fn push_all_arrays(out: &mut Items<u32>, args: &[CheckedExpr]) -> Result<(), AllocError>
-    ensures { OnOk result (out.new ≡ out.old ++ flat_map (λ arrays. arrays) (map numbered_arrays args.now)) }
+    ensures { OnOk result
+        (out.new ≡ out.old ++ flat_map (λ arrays. arrays) (map numbered_arrays args.now)) }
 {
     for arg in args {
         push_arrays(out, arg)?;
@@ -162,8 +170,11 @@ pub(crate) fn check_sites(
     sites: &[Touch],
 ) -> Result<(), CheckFault>
     requires { length indexes.now ≡ length arrays.now }
-    ensures passes { OnOk result ((all : List Site) → map touch_of all ≡ sites.now → NoneMoves indexes.now all) }
-    ensures refuses { IfErr result (λ f. f ≢ fault.NoMemory → (all : List Site) → map touch_of all ≡ sites.now → FirstFault (IndexMovesAt (map array_of arrays.now) indexes.now) all f) }
+    ensures passes { OnOk result
+        ((all : List Site) → map touch_of all ≡ sites.now → NoneMoves indexes.now all) }
+    ensures refuses { IfErr result
+        (λ f. f ≢ fault.NoMemory → (all : List Site) → map touch_of all ≡ sites.now
+        → FirstFault (IndexMovesAt (map array_of arrays.now) indexes.now) all f) }
 {
     let mut marks = vec![in alloc; false; indexes.len()]?;
     let touched = marks.as_mut_slice();
@@ -206,7 +217,8 @@ fn moved_by(touched: &[bool], indexes: &[Option<CheckedExpr>], field: Option<u32
 
 // The first array that is touched and in whose index the field stands.
 fn first_moved(touched: &[bool], indexes: &[Option<CheckedExpr>], field: u32) -> Option<usize>
-    ensures { MatchOption result (NoneMoved touched.now indexes.now field) (λ array. IsFirstMoved touched.now indexes.now field array) }
+    ensures { MatchOption result (NoneMoved touched.now indexes.now field)
+        (λ array. IsFirstMoved touched.now indexes.now field array) }
 {
     for (array, index) in indexes.iter().enumerate() {
         if is_touched(touched, array) && index_mentions(index, field) {
@@ -265,7 +277,8 @@ fn any_mentions(args: &[CheckedExpr], field: u32) -> bool
 // The fault that names the array.
 fn moves(alloc: Global, arrays: &[ArrayInfo], array: usize) -> CheckFault
     requires { array < length arrays.now }
-    ensures { result ≢ fault.NoMemory → result ≡ fault.IndexMoves (array_name (map array_of arrays.now) array) }
+    ensures { result ≢ fault.NoMemory
+        → result ≡ fault.IndexMoves (array_name (map array_of arrays.now) array) }
 {
     match copy_name(alloc, &arrays[array].name) {
         Ok(name) => CheckFault::IndexMoves(name),

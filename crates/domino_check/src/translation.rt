@@ -1,7 +1,10 @@
 //! The body of a program in numbers.
 ghost use Rattle.std.specs.Prelude.{◌≡◌, ◌++◌, ◌∷◌, [], IfOk, OnOk, None, map, flat_map};
-ghost use Rattle.domino_tree.specs.Value.{number_of, array_number};
-ghost use Rattle.domino_check.specs.Numbering.{in_numbers, numbered, accesses_in, access_at, register_at, numbered_word, called, numbered_set, target_accesses, numbered_stmt, numbered_arm, in_turn, stmt_accesses, arm_accesses, block_accesses, Numbered};
+ghost use Rattle.domino_check.specs.Numbering.{Numbered, in_numbers, numbered, accesses_in};
+ghost use Rattle.domino_check.specs.Numbering.{access_at, register_at, word_in, called, in_turn};
+ghost use Rattle.domino_check.specs.Numbering.{numbered_set, numbered_stmt, numbered_arm};
+ghost use Rattle.domino_check.specs.Numbering.{target_accesses, stmt_accesses, arm_accesses};
+ghost use Rattle.domino_check.specs.Numbering.{block_accesses};
 
 use crate::numbered::{CheckedArm, CheckedExpr, CheckedStmt};
 use crate::scope::Scope;
@@ -57,7 +60,8 @@ fn number_expr(
     accesses: &mut Vec<Access>,
 ) -> Result<CheckedExpr, AllocError>
     ensures tree { IfOk result (λ tree. tree ≡ numbered scope.now expr.now) }
-    ensures accesses { OnOk result (accesses.new.items ≡ accesses.old.items ++ accesses_in scope.now expr.now) }
+    ensures accesses { OnOk result
+        (accesses.new.items ≡ accesses.old.items ++ accesses_in scope.now expr.now) }
 {
     match expr {
         Expr::Number(number) => Ok(CheckedExpr::Number(*number)),
@@ -103,8 +107,11 @@ fn number_args(
     args: &[Expr],
     accesses: &mut Vec<Access>,
 ) -> Result<Items<CheckedExpr>, AllocError>
-    ensures trees { IfOk result (λ trees. trees ≡ map (λ (a : Numbered). a.tree) (map (in_numbers scope.now) args.now)) }
-    ensures accesses { OnOk result (accesses.new.items ≡ accesses.old.items ++ flat_map (λ (a : Numbered). a.accesses) (map (in_numbers scope.now) args.now)) }
+    ensures trees { IfOk result
+        (λ trees. trees ≡ map (λ (a : Numbered). a.tree) (map (in_numbers scope.now) args.now)) }
+    ensures accesses { OnOk result
+        (accesses.new.items ≡ accesses.old.items
+        ++ flat_map (λ (a : Numbered). a.accesses) (map (in_numbers scope.now) args.now)) }
 {
     let mut trees = Items::new(alloc);
     for arg in args {
@@ -122,7 +129,9 @@ fn number_access(
     index: &Expr,
     accesses: &mut Vec<Access>,
 ) -> Result<(), AllocError>
-    ensures { OnOk result (accesses.new.items ≡ accesses.old.items ++ access_at array (in_numbers scope.now index.now)) }
+    ensures { OnOk result
+        (accesses.new.items ≡ accesses.old.items
+        ++ access_at array (in_numbers scope.now index.now)) }
 {
     let mut inside = Vec::new(alloc);
     let tree = number_expr(alloc, scope, index, &mut inside)?;
@@ -143,8 +152,9 @@ fn number_word(
     name: &Name,
     accesses: &mut Vec<Access>,
 ) -> Result<CheckedExpr, AllocError>
-    ensures tree { IfOk result (λ tree. tree ≡ (numbered_word (number_of name.now scope.now.defines) (array_number scope.now name.now)).tree) }
-    ensures accesses { OnOk result (accesses.new.items ≡ accesses.old.items ++ (numbered_word (number_of name.now scope.now.defines) (array_number scope.now name.now)).accesses) }
+    ensures tree { IfOk result (λ tree. tree ≡ (word_in scope.now name.now).tree) }
+    ensures accesses { OnOk result
+        (accesses.new.items ≡ accesses.old.items ++ (word_in scope.now name.now).accesses) }
 {
     match scope.number_of(name) {
         Some(number) => Ok(CheckedExpr::Number(number)),
@@ -176,7 +186,8 @@ pub(crate) fn number_block(
     accesses: &mut Vec<Access>,
 ) -> Result<Items<CheckedStmt>, AllocError>
     ensures trees { IfOk result (λ trees. trees ≡ map (numbered_stmt scope.now) body.now) }
-    ensures accesses { OnOk result (accesses.new.items ≡ accesses.old.items ++ block_accesses scope.now body.now) }
+    ensures accesses { OnOk result
+        (accesses.new.items ≡ accesses.old.items ++ block_accesses scope.now body.now) }
 {
     let mut trees = Items::new(alloc);
     for stmt in body {
@@ -193,7 +204,8 @@ fn number_stmt(
     accesses: &mut Vec<Access>,
 ) -> Result<CheckedStmt, AllocError>
     ensures tree { IfOk result (λ tree. tree ≡ numbered_stmt scope.now stmt.now) }
-    ensures accesses { OnOk result (accesses.new.items ≡ accesses.old.items ++ stmt_accesses scope.now stmt.now) }
+    ensures accesses { OnOk result
+        (accesses.new.items ≡ accesses.old.items ++ stmt_accesses scope.now stmt.now) }
 {
     match stmt {
         Stmt::Set(target, expr) => number_set(alloc, scope, target, expr, accesses),
@@ -218,7 +230,9 @@ fn number_arms(
     accesses: &mut Vec<Access>,
 ) -> Result<Items<CheckedArm>, AllocError>
     ensures trees { IfOk result (λ trees. trees ≡ map (numbered_arm scope.now) arms.now) }
-    ensures accesses { OnOk result (accesses.new.items ≡ accesses.old.items ++ in_turn (map (arm_accesses scope.now) arms.now)) }
+    ensures accesses { OnOk result
+        (accesses.new.items ≡ accesses.old.items
+        ++ in_turn (map (arm_accesses scope.now) arms.now)) }
 {
     let mut trees = Items::new(alloc);
     for arm in arms {
@@ -236,7 +250,8 @@ fn number_arm(
     accesses: &mut Vec<Access>,
 ) -> Result<CheckedArm, AllocError>
     ensures tree { IfOk result (λ tree. tree ≡ numbered_arm scope.now arm.now) }
-    ensures accesses { OnOk result (accesses.new.items ≡ accesses.old.items ++ arm_accesses scope.now arm.now) }
+    ensures accesses { OnOk result
+        (accesses.new.items ≡ accesses.old.items ++ arm_accesses scope.now arm.now) }
 {
     let cond = number_expr(alloc, scope, &arm.cond, accesses)?;
     let body = number_block(alloc, scope, arm.body.as_slice(), accesses)?;
@@ -251,8 +266,11 @@ fn number_set(
     expr: &Expr,
     accesses: &mut Vec<Access>,
 ) -> Result<CheckedStmt, AllocError>
-    ensures tree { IfOk result (λ tree. tree ≡ numbered_set scope.now target.now (numbered scope.now expr.now)) }
-    ensures accesses { OnOk result (accesses.new.items ≡ accesses.old.items ++ (target_accesses scope.now target.now ++ accesses_in scope.now expr.now)) }
+    ensures tree { IfOk result
+        (λ tree. tree ≡ numbered_set scope.now target.now (numbered scope.now expr.now)) }
+    ensures accesses { OnOk result
+        (accesses.new.items ≡ accesses.old.items
+        ++ (target_accesses scope.now target.now ++ accesses_in scope.now expr.now)) }
 {
     match target {
         Target::Word(name) => {
