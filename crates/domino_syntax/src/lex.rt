@@ -9,7 +9,8 @@ ghost use Rattle.domino_syntax.specs.Tokens.{Moves};
 ghost use Rattle.domino_syntax.specs.Cutting.{Cuts};
 
 use crate::fault::TextFault;
-use domino_tree::{Keyword, SIGNS, Sign, Token};
+use crate::signs::SignIndex;
+use domino_tree::{Keyword, Token};
 use mp5_words::Name;
 use std::alloc::{AllocError, Global};
 
@@ -188,23 +189,12 @@ fn word_at(alloc: Global, text: &[u8]) -> Result<Piece, AllocError>
     }
 }
 
-/// The longest sign that begins a text.
-#[tactic(auto, unfolding(crate::specs::Tokens::first_sign))]
-fn first_sign(text: &[u8]) -> Option<Sign>
-    ensures value { result ≡ spec.first_sign text.now }
-{
-    SIGNS
-        .iter()
-        .copied()
-        .find(|sign| text.starts_with(sign.text().as_bytes()))
-}
-
 /// The longest sign at the front of a text.
-fn sign_at(text: &[u8]) -> Piece
+fn sign_at(signs: &SignIndex, text: &[u8]) -> Piece
     ensures value { result ≡ spec.sign_at text.now }
     ensures within { Moves (length text.now) result }
 {
-    match first_sign(text) {
+    match signs.first_sign(text) {
         None => Piece::Bad,
         Some(sign) => Piece::Token(Token::Sign(sign), sign.text().len()),
     }
@@ -237,7 +227,7 @@ fn closing(text: &[u8]) -> Option<usize>
 }
 
 /// What begins with `/`: a comment or a sign.
-fn slash_at(text: &[u8]) -> Piece
+fn slash_at(signs: &SignIndex, text: &[u8]) -> Piece
     ensures value { result ≡ spec.slash_at text.now }
     ensures within { Moves (length text.now) result }
 {
@@ -247,7 +237,7 @@ fn slash_at(text: &[u8]) -> Piece
             Some(end) => Piece::Skip(end + 2),
         },
         [_, b'/', rest @ ..] => Piece::Skip(line_len(rest) + 2),
-        _ => sign_at(text),
+        _ => sign_at(signs, text),
     }
 }
 
@@ -273,7 +263,7 @@ fn hash_at(text: &[u8]) -> Piece
 
 /// The piece at the front of a text.
 #[tactic(auto, unfolding(crate::specs::Tokens::piece))]
-fn piece_at(alloc: Global, text: &[u8]) -> Result<Piece, AllocError>
+fn piece_at(alloc: Global, signs: &SignIndex, text: &[u8]) -> Result<Piece, AllocError>
     ensures value { IfOk result (λ found. found ≡ spec.piece text.now) }
     ensures within { IfOk result (λ found. Moves (length text.now) found) }
 {
@@ -287,9 +277,9 @@ fn piece_at(alloc: Global, text: &[u8]) -> Result<Piece, AllocError>
             } else if *b == b'#' {
                 Ok(hash_at(text))
             } else if *b == b'/' {
-                Ok(slash_at(text))
+                Ok(slash_at(signs, text))
             } else {
-                Ok(sign_at(text))
+                Ok(sign_at(signs, text))
             }
         }
     }
@@ -300,10 +290,11 @@ pub(crate) fn tokens_of(alloc: Global, text: &[u8]) -> Result<Vec<Token>, TextFa
     requires { length text.now ≤ 4294967295 }
     ensures { Cuts (λ list. list.items) text.now result }
 {
+    let signs = SignIndex::new(alloc)?;
     let mut tokens = Vec::new(alloc);
     let mut rest = text;
     loop {
-        match piece_at(alloc, rest)? {
+        match piece_at(alloc, &signs, rest)? {
             Piece::End => return Ok(tokens),
             Piece::Skip(len) => rest = &rest[len..],
             Piece::Token(token, len) => {

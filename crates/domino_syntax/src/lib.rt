@@ -12,6 +12,7 @@ mod operators;
 mod parse;
 mod read;
 mod reader;
+mod signs;
 mod statements;
 mod weigh;
 
