@@ -102,7 +102,9 @@ fn is_hexadecimal(word: &[u8]) -> bool
 fn value_of(radix: u32, digits: &[u8]) -> Option<u32>
     requires radix { (2 ≤ radix) × (radix ≤ 36) }
     requires digits { spec.are_digits radix digits.now ≡ true }
-    ensures { MatchOption result (4294967295 < digits_value radix digits.now) (λ n. n ≡ digits_value radix digits.now) }
+    ensures { MatchOption result
+        (4294967295 < digits_value radix digits.now)
+        (λ n. n ≡ digits_value radix digits.now) }
 {
     let mut value: u32 = 0;
     for digit in digits {
@@ -139,7 +141,9 @@ fn number(word: &[u8]) -> Option<Token>
 /// The reserved name that a word is.
 #[tactic(auto, unfolding(crate::specs::Tokens::name))]
 fn keyword(word: &[u8]) -> Option<Keyword>
-    ensures { MatchOption result (spec.name word.now ≡ Token.Name word.now) (λ reserved. spec.name word.now ≡ Token.Keyword reserved) }
+    ensures { MatchOption result
+        (spec.name word.now ≡ Token.Name word.now)
+        (λ reserved. spec.name word.now ≡ Token.Keyword reserved) }
 {
     if word == b"struct".as_slice() {
         Some(Keyword::Struct)
@@ -179,7 +183,9 @@ fn word_token(alloc: Global, word: &[u8]) -> Result<Option<Token>, AllocError>
 /// The word at the front of a text that begins with a byte of a word.
 fn word_at(alloc: Global, text: &[u8]) -> Result<Piece, AllocError>
     requires { 1 ≤ prefix_len is_word_byte text.now }
-    ensures value { IfOk result (λ found. found ≡ spec.piece_from (prefix_len is_word_byte text.now) (spec.word_token (spec.word_at text.now))) }
+    ensures value { IfOk result (λ found. found ≡ spec.piece_from
+        (prefix_len is_word_byte text.now)
+        (spec.word_token (spec.word_at text.now))) }
     ensures within { IfOk result (λ found. Moves (length text.now) found) }
 {
     let len = word_len(text);

@@ -8,6 +8,7 @@ mod declarations;
 mod expressions;
 mod fault;
 mod lex;
+mod limits;
 mod operators;
 mod parse;
 mod read;
@@ -17,6 +18,7 @@ mod statements;
 mod weigh;
 
 pub use fault::TextFault;
+pub use limits::{MAX_TEXT, MAX_WEIGHT};
 pub use read::read_program;
 
 #[cfg(test)]
