@@ -1,19 +1,19 @@
 -- The classic capture file: a file header, and records one after another. The format is that of pcap
--- savefiles, in either byte order, with moments in microseconds or nanoseconds.
+-- savefiles, in either byte order, with timestamps in microseconds or nanoseconds.
 use Rattle.std.specs.Prelude.{◌≡◌, ◌≤◌, ℕ, ◌%◌, List, [], ◌∷◌, ◌++◌, length, drop}
 use Rattle.byteorder.specs.Endian.{big_number}
 use Rattle.capture_io.specs.declared.limits.TheConstants.{FILE_HEADER_LEN, MAX_CAPTURE, MAX_FRAME, MAX_RECORDS, RECORD_HEADER_LEN}
 use Rattle.capture_io.specs.declared.encoding.Encoding.{Encoding}
-use Rattle.capture_io.specs.Encoding.{number_of, magic, moment}
+use Rattle.capture_io.specs.Encoding.{number_of, magic, timestamp}
 
--- a record: its moment in microseconds, the frame's original length, and its captured bytes
+-- a record: its timestamp in microseconds, the frame's original length, and its captured bytes
 pub record Record : Type 0 where
-  pub moment : ℕ
+  pub timestamp : ℕ
   pub original : ℕ
   pub frame : List ℕ
 
 -- 24 bytes: magic, version 2.4, zone, sigfigs, snaplen (which aren't looked at), and the link word, whose
--- low 16 bits are 1 for Ethernet
+-- low 16 bits are the link type, 1 for Ethernet
 pub record IsFileHeader (e : Encoding) (head : List ℕ) : Type 0 where
   pub size : length head ≡ FILE_HEADER_LEN
   pub magic : big_number 4 head ≡ magic e.order e.resolution
@@ -24,7 +24,7 @@ pub record IsFileHeader (e : Encoding) (head : List ℕ) : Type 0 where
 -- 16 bytes: seconds, fraction, captured length and original length, four bytes each
 pub record IsRecordHeader (e : Encoding) (head : List ℕ) (r : Record) : Type 0 where
   pub size : length head ≡ RECORD_HEADER_LEN
-  pub moment : moment e.resolution (number_of e.order 4 head) (number_of e.order 4 (drop 4 head)) ≡ r.moment
+  pub timestamp : timestamp e.resolution (number_of e.order 4 head) (number_of e.order 4 (drop 4 head)) ≡ r.timestamp
   pub captured : number_of e.order 4 (drop 8 head) ≡ length r.frame
   pub original : number_of e.order 4 (drop 12 head) ≡ r.original
   pub limit : length r.frame ≤ MAX_FRAME

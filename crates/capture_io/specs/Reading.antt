@@ -8,7 +8,7 @@ use Rattle.capture_io.specs.declared.encoding.Resolution.TheVariants.{Micro, Nan
 use Rattle.capture_io.specs.declared.encoding.Encoding.{Encoding}
 use Rattle.capture_io.specs.declared.fault.CaptureFault.{CaptureFault}
 use Rattle.capture_io.specs.declared.fault.CaptureFault.TheVariants.{TooLong, ShortHeader, PcapNg, BadMagic, Version, LinkType, LongRecord, Truncated, TooMany, NoMemory}
-use Rattle.capture_io.specs.Encoding.{number_of, moment}
+use Rattle.capture_io.specs.Encoding.{number_of, timestamp}
 use Rattle.capture_io.specs.ClassicCapture.{Record}
 
 infixl 10 ◌>>=◌
@@ -55,9 +55,9 @@ after_file_header bytes =
     if nat_lt (length bytes) FILE_HEADER_LEN then Err (ShortHeader (length bytes)) else (
     map_ok (λ e. (e, drop FILE_HEADER_LEN bytes)) (file_header_of (take FILE_HEADER_LEN bytes))))
 
--- the moment in a record header
-abbrev pub moment_in : Encoding → List ℕ → ℕ
-moment_in e head = moment e.resolution (number_of e.order 4 head) (number_of e.order 4 (drop 4 head))
+-- the timestamp in a record header
+abbrev pub timestamp_in : Encoding → List ℕ → ℕ
+timestamp_in e head = timestamp e.resolution (number_of e.order 4 head) (number_of e.order 4 (drop 4 head))
 
 -- the record of this header that has so many bytes of the body, and the bytes after it
 abbrev pub record_from : Encoding → ℕ → List ℕ → List ℕ → ℕ → Result (Record × List ℕ) CaptureFault
@@ -65,7 +65,7 @@ record_from e at head body captured =
     if nat_lt MAX_FRAME captured then Err (LongRecord at captured) else (
     if nat_lt (length body) captured then Err (Truncated at) else Ok (
       record {
-        moment = moment_in e head;
+        timestamp = timestamp_in e head;
         original = number_of e.order 4 (drop 12 head);
         frame = take captured body;
       },
@@ -89,9 +89,9 @@ records_of e zero at (b ∷ bytes) = Err (TooMany (MAX_RECORDS + 1))
 records_of e (suc n) at (b ∷ bytes) =
     record_at e at (b ∷ bytes) >>= λ first. map_ok (λ others. first.0 ∷ others) (records_of e n (end_of at first.0) first.1)
 
--- the moment in the record header that begins the bytes, if one does
-abbrev pub first_moment : Encoding → List ℕ → ℕ
-first_moment e bytes = if nat_lt (length bytes) RECORD_HEADER_LEN then 0 else moment_in e (take RECORD_HEADER_LEN bytes)
+-- the timestamp in the record header that begins the bytes, if one does
+abbrev pub first_timestamp : Encoding → List ℕ → ℕ
+first_timestamp e bytes = if nat_lt (length bytes) RECORD_HEADER_LEN then 0 else timestamp_in e (take RECORD_HEADER_LEN bytes)
 
 -- the records of a capture
 unfoldable pub capture_of : List ℕ → Result (List Record) CaptureFault

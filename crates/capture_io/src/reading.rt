@@ -10,19 +10,19 @@ ghost use Rattle.capture_io.specs.Refusal.{Refuses, IsRefusedFor};
 ghost use Rattle.capture_io.specs.Header.{headers};
 ghost use Rattle.capture_io.specs.Header as header;
 ghost use Rattle.capture_io.specs.Fields as spec;
-ghost use Rattle.capture_io.specs.Reading.{Gives, map_ok, first_moment, records_of, capture_of};
+ghost use Rattle.capture_io.specs.Reading.{Gives, map_ok, first_timestamp, records_of, capture_of};
 
 use crate::capture::Capture;
 use crate::encoding::Encoding;
 use crate::fault::CaptureFault;
 use crate::frame::ipv4;
 use crate::limits::{FILE_HEADER_LEN, MAX_CAPTURE, MAX_FRAME, MAX_RECORDS, RECORD_HEADER_LEN};
-use crate::record::{Stamp, after_file_header, first_moment, record_at};
+use crate::record::{Stamp, after_file_header, first_timestamp, record_at};
 use crate::source::{Source, reads_packet, sources_of};
 use mp5_words::FieldNames;
 use std::alloc::Global;
 
-/// Reads a capture: a classic capture file of Ethernet frames, in either byte order, with moments in
+/// Reads a capture: a classic capture file of Ethernet frames, in either byte order, with timestamps in
 /// microseconds or nanoseconds, as `IsCapture` says. Of each record the fields of these names are kept,
 /// as `headers` says: `arrival` and `len` of the record; `tos`, `ttl`, `proto`, `saddr` and `daddr` of
 /// the IPv4 header; `sport` and `dport` of TCP and UDP. Other names are 0.
@@ -96,10 +96,10 @@ fn words_of(
     requires { FILE_HEADER_LEN + length bytes.now ≤ MAX_CAPTURE }
     ensures { Gives {Y = List ℤ × ℕ} (λ x. (x.0.items, x.1)) result
         (map_ok {B = List ℤ × ℕ}
-        (λ rs. (spec.words sources.now (first_moment encoding bytes.now) rs, length rs))
+        (λ rs. (spec.words sources.now (first_timestamp encoding bytes.now) rs, length rs))
         (records_of encoding MAX_RECORDS FILE_HEADER_LEN bytes.now)) }
 {
-    let start = first_moment(encoding, bytes);
+    let start = first_timestamp(encoding, bytes);
     let in_packet = reads_packet(sources);
     let mut words = Vec::new(alloc);
     let mut count = 0;
@@ -118,7 +118,7 @@ fn words_of(
     Ok((words, count))
 }
 
-// Appends the fields of a record of a capture that starts at this moment. The IPv4 header is looked for
+// Appends the fields of a record of a capture that starts at this timestamp. The IPv4 header is looked for
 // if a field wants it.
 fn push_record(
     words: &mut Vec<i32>,
@@ -131,28 +131,29 @@ fn push_record(
     requires wanted { in_packet ≡ list_any spec.is_in_packet sources.now }
     requires limit { length frame.now ≤ MAX_FRAME }
     ensures fields { let record_of : Record = record {
-      moment = stamp.moment;
+      timestamp = stamp.timestamp;
       original = stamp.original;
       frame = frame.now;
-    } in OnOk result (words.new.items ≡ words.old.items ++ spec.fields sources.now start record_of) }
+    } in OnOk result (words.new.items
+        ≡ words.old.items ++ spec.fields sources.now start record_of) }
     ensures memory { IsOkUnless result CaptureFault.NoMemory }
 {
     let packet = if in_packet { ipv4(frame) } else { &[] };
     push_fields(
         words,
         sources,
-        since(start, stamp.moment),
+        since(start, stamp.timestamp),
         stamp.original,
         packet,
     )
 }
 
-// How many microseconds after the start a moment is, modulo 2^31. That divides 2^64, at which the
+// How many microseconds after the start a timestamp is, modulo 2^31. That divides 2^64, at which the
 // difference may have wrapped.
-fn since(start: u64, moment: u64) -> i32
-    ensures { result ≡ int_rem_euclid (pos moment -ℤ pos start) (pos (2 ^ 31)) }
+fn since(start: u64, timestamp: u64) -> i32
+    ensures { result ≡ int_rem_euclid (pos timestamp -ℤ pos start) (pos (2 ^ 31)) }
 {
-    (moment.wrapping_sub(start) % (1 << 31)) as i32
+    (timestamp.wrapping_sub(start) % (1 << 31)) as i32
 }
 
 // Appends a record's fields.

@@ -12,10 +12,10 @@ use byteorder::{BigEndian, ByteOrder};
 
 const ETHERNET: u32 = 1;
 
-/// When a record came, in microseconds, and how long its frame was.
+/// A record's timestamp in microseconds, and the original length of its frame.
 #[derive(Clone, Copy)]
 pub struct Stamp {
-    pub moment: u64,
+    pub timestamp: u64,
     pub original: u32,
 }
 
@@ -82,7 +82,8 @@ pub fn record_at(
     bytes: &[u8],
 ) -> Result<(Stamp, &[u8], &[u8]), CaptureFault>
     ensures parts { spec.Gives {Y = Record × List ℕ}
-        (λ x. (record { moment = x.0.moment; original = x.0.original; frame = x.1.now }, x.2.now))
+        (λ x.
+        (record { timestamp = x.0.timestamp; original = x.0.original; frame = x.1.now }, x.2.now))
         result
         (spec.record_at encoding at bytes.now) }
     ensures limit { IfOk result (λ x. length x.1.now ≤ MAX_FRAME) }
@@ -101,29 +102,29 @@ pub fn record_at(
         return Err(CaptureFault::Truncated(at));
     }
     let stamp = Stamp {
-        moment: moment_in(encoding, head),
+        timestamp: timestamp_in(encoding, head),
         original: encoding.order.read_u32(&head[12..]),
     };
     let (frame, rest) = body.split_at(captured as usize);
     Ok((stamp, frame, rest))
 }
 
-/// The moment of the record at the front, or 0 where no record header is.
-pub fn first_moment(encoding: Encoding, bytes: &[u8]) -> u64
-    ensures { result ≡ spec.first_moment encoding bytes.now }
+/// The timestamp of the record at the front, or 0 where no record header is.
+pub fn first_timestamp(encoding: Encoding, bytes: &[u8]) -> u64
+    ensures { result ≡ spec.first_timestamp encoding bytes.now }
 {
     if bytes.len() < RECORD_HEADER_LEN {
         return 0;
     }
-    moment_in(encoding, &bytes[..RECORD_HEADER_LEN])
+    timestamp_in(encoding, &bytes[..RECORD_HEADER_LEN])
 }
 
-// The moment in a record header.
-fn moment_in(encoding: Encoding, head: &[u8]) -> u64
+// The timestamp in a record header.
+fn timestamp_in(encoding: Encoding, head: &[u8]) -> u64
     requires { length head.now ≡ RECORD_HEADER_LEN }
-    ensures { result ≡ spec.moment_in encoding head.now }
+    ensures { result ≡ spec.timestamp_in encoding head.now }
 {
     let seconds = encoding.order.read_u32(head);
     let fraction = encoding.order.read_u32(&head[4..]);
-    encoding.resolution.moment(seconds, fraction)
+    encoding.resolution.timestamp(seconds, fraction)
 }
