@@ -8,7 +8,7 @@ use Rattle.capture_io.specs.declared.fault.CaptureFault.TheVariants.{LongRecord,
 use Rattle.capture_io.specs.Encoding.{number_of}
 use Rattle.capture_io.specs.ClassicCapture.{Record, IsRecordHeader}
 use Rattle.capture_io.specs.Refusal.{HasRecordHeader, IsCut, Stops}
-use Rattle.capture_io.specs.Reading.{moment_in, record_from, record_at}
+use Rattle.capture_io.specs.Reading.{timestamp_in, record_from, record_at}
 use Rattle.capture_io.proofs.Options.{past_refusal, ok_is, err_is}
 
 -- the captured length of the record at the front
@@ -18,7 +18,7 @@ captured_in e bytes = number_of e.order 4 (drop 8 (take 16 bytes))
 -- the record of this header and this body, and the bytes after it
 abbrev pub made : Encoding → List ℕ → List ℕ → ℕ → Record × List ℕ
 made e head body captured =
-    (record { moment = moment_in e head; original = number_of e.order 4 (drop 12 head); frame = take captured body }, drop captured body)
+    (record { timestamp = timestamp_in e head; original = number_of e.order 4 (drop 12 head); frame = take captured body }, drop captured body)
 
 pub record_found : (e : Encoding) (at : ℕ) (bytes : List ℕ) (x : Record × List ℕ) → record_at e at bytes ≡ Ok x → (head : List ℕ) × IsRecordHeader e head x.0 × (bytes ≡ head ++ (x.0.frame ++ x.1))
 unfolding record_at
@@ -36,7 +36,7 @@ record_found e at bytes x h =
     let spelled : bytes ≡ head ++ (take captured body ++ drop captured body) = sym (take-append-drop 16 bytes) ∙ ap (λ (y : List ℕ). head ++ y) (sym (take-append-drop captured body)) in
     let same : made e head body captured ≡ x = ok_is (made e head body captured) x d.1 in
     subst (λ (y : Record × List ℕ). (h : List ℕ) × IsRecordHeader e h y.0 × (bytes ≡ h ++ (y.0.frame ++ y.1))) same
-    (head, record { size = omega (arith, length-take 16 bytes); moment = refl; captured = sym len; original = refl; limit = omega arith }, spelled)
+    (head, record { size = omega (arith, length-take 16 bytes); timestamp = refl; captured = sym len; original = refl; limit = omega arith }, spelled)
 
 pub record_again : (e : Encoding) (at : ℕ) (head : List ℕ) (r : Record) (rest : List ℕ) → IsRecordHeader e head r → record_at e at (head ++ (r.frame ++ rest)) ≡ Ok (r, rest)
 unfolding record_at
@@ -48,7 +48,7 @@ record_again e at head r rest h =
     let whole : ltb (length (r.frame ++ rest)) (length r.frame) ≡ false = le-ltb _ _ (omega (arith, length-append r.frame rest)) in
     let frame : take (length r.frame) (r.frame ++ rest) ≡ r.frame = take_at r.frame rest (length r.frame) refl in
     let after : drop (length r.frame) (r.frame ++ rest) ≡ rest = drop_at r.frame rest (length r.frame) refl in
-    rw (long, front, back) (rw (h.captured, small, whole, frame, after, h.moment, h.original) refl)
+    rw (long, front, back) (rw (h.captured, small, whole, frame, after, h.timestamp, h.original) refl)
 
 -- the refusal of a record is the first
 pub record_refused : (e : Encoding) (count at : ℕ) (bytes : List ℕ) (f : CaptureFault) → count < 262144 → 0 < length bytes → record_at e at bytes ≡ Err f → Stops e count at bytes f

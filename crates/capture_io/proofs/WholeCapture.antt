@@ -12,16 +12,16 @@ use Rattle.capture_io.specs.Header.{start_of, headers}
 use Rattle.capture_io.specs.Fields.{words}
 use Rattle.capture_io.specs.Header.{source}
 use Rattle.capture_io.specs.Rows.{rows}
-use Rattle.capture_io.specs.Reading.{◌>>=◌, map_ok, Fails, Gives, after_file_header, moment_in, record_from, record_at, end_of, first_moment, records_of, capture_of}
+use Rattle.capture_io.specs.Reading.{◌>>=◌, map_ok, Fails, Gives, after_file_header, timestamp_in, record_from, record_at, end_of, first_timestamp, records_of, capture_of}
 use Rattle.capture_io.proofs.Options.{past_refusal, of_then, map_refused, ok_is, err_is}
 use Rattle.capture_io.proofs.RecordLaws.{captured_in, made}
 use Rattle.capture_io.proofs.CaptureLaws.{others_of, records_found, capture_found, capture_again, capture_refused, refused_again}
 use Rattle.capture_io.proofs.PacketRows.{length-words, rows_are_headers}
 use Rattle.capture_io.proofs.Walk.{counted}
 
--- ---- the start of a capture is the moment of its first record
+-- ---- the start of a capture is the timestamp of its first record
 
-first_is : (e : Encoding) (at : ℕ) (bytes : List ℕ) (x : Record × List ℕ) → record_at e at bytes ≡ Ok x → first_moment e bytes ≡ x.0.moment
+first_is : (e : Encoding) (at : ℕ) (bytes : List ℕ) (x : Record × List ℕ) → record_at e at bytes ≡ Ok x → first_timestamp e bytes ≡ x.0.timestamp
 unfolding record_at
 first_is e at bytes x h =
     let captured : ℕ = captured_in e bytes in
@@ -29,17 +29,17 @@ first_is e at bytes x h =
     let a = past_refusal (ltb (length bytes) 16) (Truncated at) (record_from e at (take 16 bytes) body captured) x h in
     let b = past_refusal (ltb 262144 captured) (LongRecord at captured) _ x a.1 in
     let d = past_refusal (ltb (length body) captured) (Truncated at) (Ok (made e (take 16 bytes) body captured)) x b.1 in
-    cond-false (ltb (length bytes) 16) 0 (moment_in e (take 16 bytes)) a.0 ∙ ap (λ (y : Record × List ℕ). y.0.moment) (ok_is (made e (take 16 bytes) body captured) x d.1)
+    cond-false (ltb (length bytes) 16) 0 (timestamp_in e (take 16 bytes)) a.0 ∙ ap (λ (y : Record × List ℕ). y.0.timestamp) (ok_is (made e (take 16 bytes) body captured) x d.1)
 
-words-start : (e : Encoding) (n at : ℕ) (bytes : List ℕ) (rs : List Record) (sources : List Source) → records_of e n at bytes ≡ Ok rs → words sources (first_moment e bytes) rs ≡ words sources (start_of rs) rs
+words-start : (e : Encoding) (n at : ℕ) (bytes : List ℕ) (rs : List Record) (sources : List Source) → records_of e n at bytes ≡ Ok rs → words sources (first_timestamp e bytes) rs ≡ words sources (start_of rs) rs
 unfolding records_of
-words-start e n at [] rs sources h = subst (λ (x : List Record). words sources (first_moment e []) x ≡ words sources (start_of x) x) (ok_is [] rs h) refl
+words-start e n at [] rs sources h = subst (λ (x : List Record). words sources (first_timestamp e []) x ≡ words sources (start_of x) x) (ok_is [] rs h) refl
 words-start e zero at (b ∷ bytes) rs sources h = absurd cc
 words-start e (suc n) at (b ∷ bytes) rs sources h =
     let a = of_then (record_at e at (b ∷ bytes)) (others_of e n at) rs h in
     let m = of_then (records_of e n (end_of at a.0.0) a.0.1) (λ (others : List Record). Ok (a.0.0 ∷ others)) rs a.2 in
     let start = first_is e at (b ∷ bytes) a.0 a.1 in
-    subst (λ (x : List Record). words sources (first_moment e (b ∷ bytes)) x ≡ words sources (start_of x) x) (ok_is (a.0.0 ∷ m.0) rs m.2)
+    subst (λ (x : List Record). words sources (first_timestamp e (b ∷ bytes)) x ≡ words sources (start_of x) x) (ok_is (a.0.0 ∷ m.0) rs m.2)
     (ap (λ (s : ℕ). words sources s (a.0.0 ∷ m.0)) start)
 
 -- ---- the rows
@@ -58,14 +58,14 @@ rows_fit names e start rest ws n h =
 
 -- the words that were read, cut into rows, are the fields of the capture's records
 pub rows_read : (names : List (List ℕ)) (bytes : List ℕ) (e : Encoding) (rest : List ℕ) (ws : List ℤ) (n : ℕ) → after_file_header bytes ≡ Ok (e, rest)
-    → counted (map source names) (first_moment e rest) (records_of e 262144 24 rest) ≡ Ok (ws, n) → map_ok (headers names) (capture_of bytes) ≡ Ok (rows n (length names) ws)
+    → counted (map source names) (first_timestamp e rest) (records_of e 262144 24 rest) ≡ Ok (ws, n) → map_ok (headers names) (capture_of bytes) ≡ Ok (rows n (length names) ws)
 unfolding capture_of
 rows_read names bytes e rest ws n file h =
     let sources = map source names in
-    let m = of_then (records_of e 262144 24 rest) (λ (rs : List Record). Ok (listed sources (first_moment e rest) rs)) (ws, n) h in
+    let m = of_then (records_of e 262144 24 rest) (λ (rs : List Record). Ok (listed sources (first_timestamp e rest) rs)) (ws, n) h in
     let found : capture_of bytes ≡ Ok m.0 = ap (λ (x : Result (Encoding × List ℕ) CaptureFault). x >>= λ y. records_of y.0 262144 24 y.1) file ∙ m.1 in
     let start = words-start e 262144 24 rest m.0 sources m.1 in
-    let is : listed sources (start_of m.0) m.0 ≡ (ws, n) = ap (λ (w : List ℤ). let p : List ℤ × ℕ = (w, length m.0) in p) (sym start) ∙ ok_is (listed sources (first_moment e rest) m.0) (ws, n) m.2 in
+    let is : listed sources (start_of m.0) m.0 ≡ (ws, n) = ap (λ (w : List ℤ). let p : List ℤ × ℕ = (w, length m.0) in p) (sym start) ∙ ok_is (listed sources (first_timestamp e rest) m.0) (ws, n) m.2 in
     ap (map_ok (headers names)) found ∙ ap (λ (x : List (List ℤ)). Ok x) (sym (rows_are_headers names m.0) ∙ ap (λ (p : List ℤ × ℕ). rows p.1 (length names) p.0) is)
 
 -- ---- what was answered

@@ -1,4 +1,4 @@
--- How the numbers of a capture file are written, and what a record's moment is.
+-- How the numbers of a capture file are written, and what a record's timestamp is.
 use Rattle.std.specs.Prelude.{ℕ, ◌+◌, ◌*◌, ◌/◌, List}
 use Rattle.byteorder.specs.Endian.{little_number, big_number}
 use Rattle.capture_io.specs.declared.encoding.Order.{Order}
@@ -24,6 +24,6 @@ abbrev pub micros : Resolution → ℕ → ℕ
 micros Micro fraction = fraction
 micros Nano fraction = fraction / 1000
 
--- a moment in microseconds; a fraction past a second is taken as it is
-abbrev pub moment : Resolution → ℕ → ℕ → ℕ
-moment resolution seconds fraction = seconds * 1000000 + micros resolution fraction
+-- a timestamp in microseconds; a fraction past a second is taken as it is
+abbrev pub timestamp : Resolution → ℕ → ℕ → ℕ
+timestamp resolution seconds fraction = seconds * 1000000 + micros resolution fraction

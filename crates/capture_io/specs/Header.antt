@@ -14,15 +14,15 @@ abbrev pub number_at : ℕ → ℕ → List ℕ → ℕ
 number_at n at bytes = if nat_le (at + n) (length bytes) then big_number n (drop at bytes) else 0
 
 abbrev pub is_tag : ℕ → Bool
-is_tag kind = kind == 0x8100 || kind == 0x88a8
+is_tag ether_type = ether_type == 0x8100 || ether_type == 0x88a8
 
--- a frame from its Ethernet type on, behind all tags: a tag has four bytes, two of its type and two of its own,
+-- a frame from its EtherType on, behind all tags: a tag has four bytes, two of its type and two of its own,
 -- and a type stands behind it
 unfoldable pub behind_tags : List ℕ → List ℕ
 behind_tags (a ∷ b ∷ c ∷ d ∷ rest) = if is_tag (number_at 2 0 (a ∷ b ∷ c ∷ d ∷ rest)) then behind_tags rest else a ∷ b ∷ c ∷ d ∷ rest
 behind_tags bytes = bytes
 
--- what stands behind an Ethernet type of IPv4, and nothing behind another
+-- what stands behind an EtherType of IPv4, and nothing behind another
 abbrev pub behind_type : List ℕ → List ℕ
 behind_type bytes = if number_at 2 0 bytes == 0x0800 then drop 2 bytes else []
 
@@ -47,7 +47,7 @@ port past ip = if has_ports ip then number_at 2 (header_len ip + past) ip else 0
 
 -- how many microseconds after a start the record came, modulo 2^31
 abbrev pub arrival : ℕ → Record → ℤ
-arrival start r = int_rem_euclid (pos r.moment -ℤ pos start) (pos (2 ^ 31))
+arrival start r = int_rem_euclid (pos r.timestamp -ℤ pos start) (pos (2 ^ 31))
 
 -- where the values of fields are read, and the name of the field that is read there
 abbrev pub filled : List Source
@@ -90,11 +90,11 @@ value_in SourcePort since original ip = pos (port 0 ip)
 value_in DestinationPort since original ip = pos (port 2 ip)
 value_in Unfilled since original ip = pos 0
 
--- the value that a record of a capture that starts at this moment has there
+-- the value that a record of a capture that starts at this timestamp has there
 abbrev pub value : ℕ → Record → Source → ℤ
 value start r s = value_in s (arrival start r) r.original (ipv4 r.frame)
 
--- the value of a field in a record of a capture that starts at this moment; 0 for a name that no record fills
+-- the value of a field in a record of a capture that starts at this timestamp; 0 for a name that no record fills
 abbrev pub field : ℕ → Record → List ℕ → ℤ
 field start r name = value start r (source name)
 
@@ -102,10 +102,10 @@ field start r name = value start r (source name)
 abbrev pub header : List (List ℕ) → ℕ → Record → List ℤ
 header names start r = map (field start r) names
 
--- the moment of the first record
+-- the timestamp of the first record
 abbrev pub start_of : List Record → ℕ
 start_of [] = 0
-start_of (r ∷ rs) = r.moment
+start_of (r ∷ rs) = r.timestamp
 
 -- the fields of each record
 abbrev pub headers : List (List ℕ) → List Record → List (List ℤ)

@@ -2,12 +2,13 @@
 -- refusal.
 use Rattle.std.specs.Prelude.{◌≡◌, ◌==◌, ◌&&◌, ℕ, zero, suc, ◌+◌, ◌%◌, nat_lt, if◌then◌else◌, List, [], ◌∷◌, length, take, drop, Result, Ok, Err}
 use Rattle.byteorder.specs.Endian.{big_number}
+use Rattle.capture_io.specs.declared.limits.TheConstants.{FILE_HEADER_LEN, MAX_CAPTURE, MAX_FRAME, MAX_RECORDS, RECORD_HEADER_LEN}
 use Rattle.capture_io.specs.declared.encoding.Order.TheVariants.{Little, Big}
 use Rattle.capture_io.specs.declared.encoding.Resolution.TheVariants.{Micro, Nano}
 use Rattle.capture_io.specs.declared.encoding.Encoding.{Encoding}
 use Rattle.capture_io.specs.declared.fault.CaptureFault.{CaptureFault}
 use Rattle.capture_io.specs.declared.fault.CaptureFault.TheVariants.{TooLong, ShortHeader, PcapNg, BadMagic, Version, LinkType, LongRecord, Truncated, TooMany, NoMemory}
-use Rattle.capture_io.specs.Encoding.{number_of, moment}
+use Rattle.capture_io.specs.Encoding.{number_of, timestamp}
 use Rattle.capture_io.specs.ClassicCapture.{Record}
 
 infixl 10 ◌>>=◌
@@ -50,21 +51,21 @@ file_header_of head = encoding_of (big_number 4 head) >>= λ e.
 -- the encoding of the file, and the bytes after the file header
 unfoldable pub after_file_header : List ℕ → Result (Encoding × List ℕ) CaptureFault
 after_file_header bytes =
-    if nat_lt 134217728 (length bytes) then Err (TooLong (length bytes)) else (
-    if nat_lt (length bytes) 24 then Err (ShortHeader (length bytes)) else (
-    map_ok (λ e. (e, drop 24 bytes)) (file_header_of (take 24 bytes))))
+    if nat_lt MAX_CAPTURE (length bytes) then Err (TooLong (length bytes)) else (
+    if nat_lt (length bytes) FILE_HEADER_LEN then Err (ShortHeader (length bytes)) else (
+    map_ok (λ e. (e, drop FILE_HEADER_LEN bytes)) (file_header_of (take FILE_HEADER_LEN bytes))))
 
--- the moment in a record header
-abbrev pub moment_in : Encoding → List ℕ → ℕ
-moment_in e head = moment e.resolution (number_of e.order 4 head) (number_of e.order 4 (drop 4 head))
+-- the timestamp in a record header
+abbrev pub timestamp_in : Encoding → List ℕ → ℕ
+timestamp_in e head = timestamp e.resolution (number_of e.order 4 head) (number_of e.order 4 (drop 4 head))
 
 -- the record of this header that has so many bytes of the body, and the bytes after it
 abbrev pub record_from : Encoding → ℕ → List ℕ → List ℕ → ℕ → Result (Record × List ℕ) CaptureFault
 record_from e at head body captured =
-    if nat_lt 262144 captured then Err (LongRecord at captured) else (
+    if nat_lt MAX_FRAME captured then Err (LongRecord at captured) else (
     if nat_lt (length body) captured then Err (Truncated at) else Ok (
       record {
-        moment = moment_in e head;
+        timestamp = timestamp_in e head;
         original = number_of e.order 4 (drop 12 head);
         frame = take captured body;
       },
@@ -74,24 +75,24 @@ record_from e at head body captured =
 -- the record at the front, which is at this place of the file, and the bytes after it
 unfoldable pub record_at : Encoding → ℕ → List ℕ → Result (Record × List ℕ) CaptureFault
 record_at e at bytes =
-    if nat_lt (length bytes) 16 then Err (Truncated at) else
-    record_from e at (take 16 bytes) (drop 16 bytes) (number_of e.order 4 (drop 8 (take 16 bytes)))
+    if nat_lt (length bytes) RECORD_HEADER_LEN then Err (Truncated at) else
+    record_from e at (take RECORD_HEADER_LEN bytes) (drop RECORD_HEADER_LEN bytes) (number_of e.order 4 (drop 8 (take RECORD_HEADER_LEN bytes)))
 
 -- where the record that begins at this place ends
 abbrev pub end_of : ℕ → Record → ℕ
-end_of at r = at + (16 + length r.frame)
+end_of at r = at + (RECORD_HEADER_LEN + length r.frame)
 
 -- the records that all of the bytes are, which begin at this place, if there are at most n
 unfoldable pub records_of : Encoding → ℕ → ℕ → List ℕ → Result (List Record) CaptureFault
 records_of e n at [] = Ok []
-records_of e zero at (b ∷ bytes) = Err (TooMany 262145)
+records_of e zero at (b ∷ bytes) = Err (TooMany (MAX_RECORDS + 1))
 records_of e (suc n) at (b ∷ bytes) =
     record_at e at (b ∷ bytes) >>= λ first. map_ok (λ others. first.0 ∷ others) (records_of e n (end_of at first.0) first.1)
 
--- the moment in the record header that begins the bytes, if one does
-abbrev pub first_moment : Encoding → List ℕ → ℕ
-first_moment e bytes = if nat_lt (length bytes) 16 then 0 else moment_in e (take 16 bytes)
+-- the timestamp in the record header that begins the bytes, if one does
+abbrev pub first_timestamp : Encoding → List ℕ → ℕ
+first_timestamp e bytes = if nat_lt (length bytes) RECORD_HEADER_LEN then 0 else timestamp_in e (take RECORD_HEADER_LEN bytes)
 
 -- the records of a capture
 unfoldable pub capture_of : List ℕ → Result (List Record) CaptureFault
-capture_of bytes = after_file_header bytes >>= λ x. records_of x.0 262144 24 x.1
+capture_of bytes = after_file_header bytes >>= λ x. records_of x.0 MAX_RECORDS FILE_HEADER_LEN x.1

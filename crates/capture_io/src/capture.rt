@@ -3,6 +3,7 @@
 ghost use Rattle.std.specs.Prelude.{◌≡◌, ◌<◌, ◌≤◌, length, slice_get, Some};
 ghost use Rattle.std.specs.List.{flat_map};
 
+use crate::limits::MAX_RECORDS;
 use std::marker::Model;
 
 /// The packets of a capture, seen as the list of their fields' values, in order of arrival.
@@ -17,20 +18,21 @@ impl Model for Capture {
     ghost use Rattle.std.specs.Prelude.{List, ℤ, ◌≡◌, ◌≤◌, ◌*◌};
     ghost use Rattle.std.specs.Vec.{vec_len};
     ghost use Rattle.capture_io.specs.Rows.{rows};
+    ghost use Rattle.capture_io.specs.declared.limits.TheConstants.{MAX_RECORDS};
 
     ghost Value = { List (List ℤ) };
 
     ghost view = { λ c. rows c.packets c.width c.words.items };
 
     ghost invariant = { λ c.
-        (vec_len c.words ≡ c.packets * c.width) × (c.packets ≤ 262144) × (c.width ≤ 32) };
+        (vec_len c.words ≡ c.packets * c.width) × (c.packets ≤ MAX_RECORDS) × (c.width ≤ 32) };
 }
 
 impl Capture {
     /// How many packets there are.
     pub fn count(&self) -> u32
         ensures count { result ≡ length self.now }
-        ensures limit { result ≤ 262144 }
+        ensures limit { result ≤ MAX_RECORDS }
     {
         self.packets
     }

@@ -44,9 +44,9 @@ pub enum Resolution {
 }
 
 impl Resolution {
-    /// A moment in microseconds, rounded down.
-    pub fn moment(self, seconds: u32, fraction: u32) -> u64
-        ensures { result ≡ spec.moment self seconds fraction }
+    /// A timestamp in microseconds, rounded down.
+    pub fn timestamp(self, seconds: u32, fraction: u32) -> u64
+        ensures { result ≡ spec.timestamp self seconds fraction }
     {
         let micros = match self {
             Resolution::Micro => fraction,

@@ -23,7 +23,7 @@ pub enum CaptureFault {
     /// The version isn't 2.4, but this major and this minor version.
     #[error("the version is {0}.{1} and not 2.4")]
     Version(u16, u16),
-    /// The low 16 bits of this link word aren't 1, for Ethernet.
+    /// The link type, the low 16 bits of this word, isn't Ethernet's, which is 1.
     #[error("the link word is {0}, which isn't Ethernet")]
     LinkType(u32),
     /// The record at this byte has this captured length, more than a record may have.

@@ -44,7 +44,7 @@ fn behind_addresses(frame: &[u8]) -> &[u8]
     }
 }
 
-// The bytes from the Ethernet type on, behind the tags.
+// The bytes from the EtherType on, behind the tags.
 fn behind_tags(typed: &[u8]) -> &[u8]
     ensures { result.now ≡ header.behind_tags typed.now }
 {
@@ -55,10 +55,10 @@ fn behind_tags(typed: &[u8]) -> &[u8]
     rest
 }
 
-fn is_tag(kind: u16) -> bool
-    ensures { result ≡ header.is_tag kind }
+fn is_tag(ether_type: u16) -> bool
+    ensures { result ≡ header.is_tag ether_type }
 {
-    kind == TAG || kind == SERVICE_TAG
+    ether_type == TAG || ether_type == SERVICE_TAG
 }
 
 /// The port that stands so many bytes behind the IPv4 header that begins the packet; 0 where there is

@@ -8,12 +8,14 @@ mod capture;
 mod encoding;
 mod fault;
 mod frame;
+mod limits;
 mod reading;
 mod record;
 mod source;
 
 pub use capture::Capture;
 pub use fault::CaptureFault;
+pub use limits::{FILE_HEADER_LEN, MAX_CAPTURE, MAX_FRAME, MAX_RECORDS, RECORD_HEADER_LEN};
 pub use reading::read_capture;
 
 #[cfg(test)]

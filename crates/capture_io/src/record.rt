@@ -7,36 +7,27 @@ ghost use Rattle.capture_io.specs.Reading as spec;
 
 use crate::encoding::{Encoding, Order, Resolution};
 use crate::fault::CaptureFault;
+use crate::limits::{FILE_HEADER_LEN, MAX_CAPTURE, MAX_FRAME, RECORD_HEADER_LEN};
 use byteorder::{BigEndian, ByteOrder};
-
-/// A capture has at most so many bytes.
-const MAX_BYTES: usize = 134_217_728;
-
-/// How many bytes a file header has.
-pub const FILE_HEADER_LEN: usize = 24;
-
-/// How many bytes a record header has.
-pub const RECORD_HEADER_LEN: usize = 16;
 
 const ETHERNET: u32 = 1;
 
-/// At most so many bytes of a frame are captured.
-const MAX_FRAME_LEN: u32 = 262_144;
-
-/// When a record came, in microseconds, and how long its frame was.
+/// A record's timestamp in microseconds, and the original length of its frame.
 #[derive(Clone, Copy)]
 pub struct Stamp {
-    pub moment: u64,
+    pub timestamp: u64,
     pub original: u32,
 }
 
 /// How the file is written, and the bytes after its header.
 #[tactic(auto, unfolding(crate::specs::Reading::after_file_header))]
 pub fn after_file_header(bytes: &[u8]) -> Result<(Encoding, &[u8]), CaptureFault>
-    ensures rest { spec.Gives {Y = Encoding × List ℕ} (λ x. (x.0, x.1.now)) result (spec.after_file_header bytes.now) }
-    ensures limit { IfOk result (λ x. 24 + length x.1.now ≤ 134217728) }
+    ensures rest { spec.Gives {Y = Encoding × List ℕ}
+        (λ x. (x.0, x.1.now)) result
+        (spec.after_file_header bytes.now) }
+    ensures limit { IfOk result (λ x. FILE_HEADER_LEN + length x.1.now ≤ MAX_CAPTURE) }
 {
-    if bytes.len() > MAX_BYTES {
+    if bytes.len() > MAX_CAPTURE {
         return Err(CaptureFault::TooLong(bytes.len() as u64));
     }
     if bytes.len() < FILE_HEADER_LEN {
@@ -50,7 +41,7 @@ pub fn after_file_header(bytes: &[u8]) -> Result<(Encoding, &[u8]), CaptureFault
 // How a file with this header is written.
 #[tactic(auto, unfolding(crate::specs::Reading::file_header_of))]
 fn file_header_of(head: &[u8]) -> Result<Encoding, CaptureFault>
-    requires { length head.now ≡ 24 }
+    requires { length head.now ≡ FILE_HEADER_LEN }
     ensures { spec.Gives (λ e. e) result (spec.file_header_of head.now) }
 {
     let encoding = encoding_of(BigEndian::read_u32(head))?;
@@ -91,46 +82,49 @@ pub fn record_at(
     bytes: &[u8],
 ) -> Result<(Stamp, &[u8], &[u8]), CaptureFault>
     ensures parts { spec.Gives {Y = Record × List ℕ}
-        (λ x. (record { moment = x.0.moment; original = x.0.original; frame = x.1.now }, x.2.now)) result
+        (λ x.
+        (record { timestamp = x.0.timestamp; original = x.0.original; frame = x.1.now }, x.2.now))
+        result
         (spec.record_at encoding at bytes.now) }
-    ensures limit { IfOk result (λ x. length x.1.now ≤ 262144) }
-    ensures sum { IfOk result (λ x. 16 + length x.1.now + length x.2.now ≡ length bytes.now) }
+    ensures limit { IfOk result (λ x. length x.1.now ≤ MAX_FRAME) }
+    ensures sum { IfOk result (λ x.
+        RECORD_HEADER_LEN + length x.1.now + length x.2.now ≡ length bytes.now) }
 {
     if bytes.len() < RECORD_HEADER_LEN {
         return Err(CaptureFault::Truncated(at));
     }
     let (head, body) = bytes.split_at(RECORD_HEADER_LEN);
     let captured = encoding.order.read_u32(&head[8..]);
-    if captured > MAX_FRAME_LEN {
+    if captured > MAX_FRAME {
         return Err(CaptureFault::LongRecord(at, captured));
     }
     if captured as usize > body.len() {
         return Err(CaptureFault::Truncated(at));
     }
     let stamp = Stamp {
-        moment: moment_in(encoding, head),
+        timestamp: timestamp_in(encoding, head),
         original: encoding.order.read_u32(&head[12..]),
     };
     let (frame, rest) = body.split_at(captured as usize);
     Ok((stamp, frame, rest))
 }
 
-/// The moment of the record at the front, or 0 where no record header is.
-pub fn first_moment(encoding: Encoding, bytes: &[u8]) -> u64
-    ensures { result ≡ spec.first_moment encoding bytes.now }
+/// The timestamp of the record at the front, or 0 where no record header is.
+pub fn first_timestamp(encoding: Encoding, bytes: &[u8]) -> u64
+    ensures { result ≡ spec.first_timestamp encoding bytes.now }
 {
     if bytes.len() < RECORD_HEADER_LEN {
         return 0;
     }
-    moment_in(encoding, &bytes[..RECORD_HEADER_LEN])
+    timestamp_in(encoding, &bytes[..RECORD_HEADER_LEN])
 }
 
-// The moment in a record header.
-fn moment_in(encoding: Encoding, head: &[u8]) -> u64
-    requires { length head.now ≡ 16 }
-    ensures { result ≡ spec.moment_in encoding head.now }
+// The timestamp in a record header.
+fn timestamp_in(encoding: Encoding, head: &[u8]) -> u64
+    requires { length head.now ≡ RECORD_HEADER_LEN }
+    ensures { result ≡ spec.timestamp_in encoding head.now }
 {
     let seconds = encoding.order.read_u32(head);
     let fraction = encoding.order.read_u32(&head[4..]);
-    encoding.resolution.moment(seconds, fraction)
+    encoding.resolution.timestamp(seconds, fraction)
 }

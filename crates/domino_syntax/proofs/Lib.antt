@@ -1,4 +1,5 @@
 pub mod SignLemmas
+pub mod SignIndexLemmas
 pub mod LexLemmas
 pub mod PieceLemmas
 pub mod Turns

@@ -4,6 +4,7 @@ use Rattle.domino_tree.specs.declared.token.Token.{Token}
 use Rattle.domino_tree.specs.declared.program.Program.{Program}
 use Rattle.domino_tree.specs.Derives.{Derives}
 use Rattle.domino_tree.specs.Weight.{is_light}
+use Rattle.domino_syntax.specs.declared.limits.TheConstants.{MAX_TEXT}
 use Rattle.domino_syntax.specs.declared.fault.TextFault.{TextFault}
 use Rattle.domino_syntax.specs.declared.fault.TextFault.TheVariants as fault
 use Rattle.domino_syntax.specs.Pieces.{ArePieces, IsBadAt}
@@ -12,7 +13,7 @@ use Rattle.domino_syntax.specs.Stuck.{IsStuckAt}
 
 -- the text has at most 65,536 bytes, and is white space, comments and these tokens to its end
 pub record HasTokens (text : List ℕ) (tokens : List Token) : Type 0 where
-  pub short : length text ≤ 65536
+  pub short : length text ≤ MAX_TEXT
   pub pieces : ArePieces text tokens
 
 -- the text has tokens whose weight never exceeds 64, and the grammar derives them to the program
@@ -38,8 +39,8 @@ pub record IsStuckText (text : List ℕ) (n : ℕ) : Type 0 where
 -- the text is refused for this, and for nothing that is judged before it; want of memory is no refusal of a
 -- text
 abbrev pub Refuses : List ℕ → TextFault → Type 0
-Refuses text (fault.TooLong n) = (n ≡ length text) × (65536 < n)
-Refuses text (fault.BadToken at) = (length text ≤ 65536) × IsBadAt text at
+Refuses text (fault.TooLong n) = (n ≡ length text) × (MAX_TEXT < n)
+Refuses text (fault.BadToken at) = (length text ≤ MAX_TEXT) × IsBadAt text at
 Refuses text (fault.TooDeep n) = IsHeavyText text n
 Refuses text (fault.Syntax n) = IsStuckText text n
 Refuses text fault.NoMemory = ⊥

@@ -1,4 +1,4 @@
-//! The parser of expressions: one function for each form, and one for all levels of operators.
+//! The parser of expressions: one function for each form, and one for all precedence levels.
 
 ghost use Rattle.std.specs.Prelude.{◌≡◌, ◌<◌, ◌≤◌, ◌-◌, IfOk};
 ghost use Rattle.domino_tree.specs.declared.expr.Expr.TheVariants as expr;
@@ -11,10 +11,10 @@ use mp5_words::{Name, Op1, Op2};
 use sqlite_items::{Boxed, Items};
 use std::alloc::{AllocError, Global};
 
-/// How many levels are below the loosest, `c ? a : b`.
+/// How many precedence levels are below the loosest, `c ? a : b`.
 const LOOSEST: usize = 11;
 
-/// An operator before an expression.
+/// A prefix operator on its operand.
 fn one(alloc: Global, op: Op1, operand: Expr) -> Result<Expr, AllocError>
     ensures { IfOk result (λ e. e ≡ expr.One op operand) }
 {
@@ -58,7 +58,8 @@ fn bracketed(
     opening: Sign,
     closing: Sign,
 ) -> Result<Expr, Stop>
-    ensures { Reads (spec.bracketed (spec.expression depth) opening closing reader.old) result reader.new }
+    ensures { Reads (spec.bracketed (spec.expression depth) opening closing reader.old)
+        result reader.new }
 {
     reader.sign(opening)?;
     let inner = expression_at(alloc, reader, depth, LOOSEST)?;
@@ -134,11 +135,12 @@ fn primary(alloc: Global, reader: &mut Reader<'_>, depth: usize) -> Result<Expr,
     }
 }
 
-/// An operator and its operand, or a form without operators.
+/// A prefix operator and its operand, or a form without operators.
 #[cycle(expression)]
 #[tactic(auto, unfolding(crate::specs::ReadingExpressions::operand))]
 fn operand(alloc: Global, reader: &mut Reader<'_>, depth: usize) -> Result<Expr, Stop>
-    ensures { Reads (spec.operand (spec.expression_at depth 0) (spec.expression depth) reader.old) result reader.new }
+    ensures { Reads (spec.operand (spec.expression_at depth 0) (spec.expression depth) reader.old)
+        result reader.new }
 {
     if reader.sees_unary() {
         let op = reader.unary()?;
@@ -149,7 +151,7 @@ fn operand(alloc: Global, reader: &mut Reader<'_>, depth: usize) -> Result<Expr,
     }
 }
 
-/// One operator of a level more, and what stands on its right.
+/// One operator of a precedence level more, and what stands on its right.
 #[cycle(expression)]
 #[tactic(auto, unfolding(crate::specs::ReadingExpressions::joined))]
 fn joined(
@@ -160,14 +162,17 @@ fn joined(
     left: Expr,
 ) -> Result<Expr, Stop>
     requires { below < 10 }
-    ensures { Reads (spec.joined (spec.tier (spec.expression_at depth) below) (10 - below) left reader.old) result reader.new }
+    ensures { Reads
+        (spec.joined (spec.tier (spec.expression_at depth) below) (10 - below) left reader.old)
+        result reader.new }
 {
     let op = reader.binary(10 - below)?;
     let right = tier(alloc, reader, depth, below)?;
     Ok(two(alloc, op, left, right)?)
 }
 
-/// Goes on from an expression by operators of the level above `below` levels.
+/// Goes on from an expression by operators of the precedence level above
+/// `below` others.
 #[cycle(expression)]
 #[tactic(auto, unfolding(crate::specs::ReadingExpressions::chain))]
 fn chain(
@@ -178,7 +183,9 @@ fn chain(
     first: Expr,
 ) -> Result<Expr, Stop>
     requires { below < 10 }
-    ensures { Reads (spec.chain (spec.tier (spec.expression_at depth) below) (10 - below) first reader.old) result reader.new }
+    ensures { Reads
+        (spec.chain (spec.tier (spec.expression_at depth) below) (10 - below) first reader.old)
+        result reader.new }
 {
     let mut left = first;
     for _turn in 0..reader.left() {
@@ -206,7 +213,7 @@ fn pick(alloc: Global, reader: &mut Reader<'_>, depth: usize, cond: Expr) -> Res
     Ok(pick_of(alloc, cond, then, other)?)
 }
 
-/// An expression with so many levels below its own.
+/// An expression with so many precedence levels below its own.
 #[cycle(expression)]
 fn tier(alloc: Global, reader: &mut Reader<'_>, depth: usize, below: usize) -> Result<Expr, Stop>
     requires { below ≤ 11 }
@@ -223,7 +230,7 @@ fn tier(alloc: Global, reader: &mut Reader<'_>, depth: usize, below: usize) -> R
     }
 }
 
-/// An expression with so many levels below its own, and with fewer than `depth` forms within forms.
+/// An expression with so many precedence levels below its own, and with fewer than `depth` forms within forms.
 #[cycle(expression)]
 fn expression_at(
     alloc: Global,

@@ -9,7 +9,8 @@ ghost use Rattle.domino_syntax.specs.Tokens.{Moves};
 ghost use Rattle.domino_syntax.specs.Cutting.{Cuts};
 
 use crate::fault::TextFault;
-use domino_tree::{Keyword, SIGNS, Sign, Token};
+use crate::signs::SignIndex;
+use domino_tree::{Keyword, Token};
 use mp5_words::Name;
 use std::alloc::{AllocError, Global};
 
@@ -101,7 +102,9 @@ fn is_hexadecimal(word: &[u8]) -> bool
 fn value_of(radix: u32, digits: &[u8]) -> Option<u32>
     requires radix { (2 ≤ radix) × (radix ≤ 36) }
     requires digits { spec.are_digits radix digits.now ≡ true }
-    ensures { MatchOption result (4294967295 < digits_value radix digits.now) (λ n. n ≡ digits_value radix digits.now) }
+    ensures { MatchOption result
+        (4294967295 < digits_value radix digits.now)
+        (λ n. n ≡ digits_value radix digits.now) }
 {
     let mut value: u32 = 0;
     for digit in digits {
@@ -138,7 +141,9 @@ fn number(word: &[u8]) -> Option<Token>
 /// The reserved name that a word is.
 #[tactic(auto, unfolding(crate::specs::Tokens::name))]
 fn keyword(word: &[u8]) -> Option<Keyword>
-    ensures { MatchOption result (spec.name word.now ≡ Token.Name word.now) (λ reserved. spec.name word.now ≡ Token.Keyword reserved) }
+    ensures { MatchOption result
+        (spec.name word.now ≡ Token.Name word.now)
+        (λ reserved. spec.name word.now ≡ Token.Keyword reserved) }
 {
     if word == b"struct".as_slice() {
         Some(Keyword::Struct)
@@ -178,7 +183,9 @@ fn word_token(alloc: Global, word: &[u8]) -> Result<Option<Token>, AllocError>
 /// The word at the front of a text that begins with a byte of a word.
 fn word_at(alloc: Global, text: &[u8]) -> Result<Piece, AllocError>
     requires { 1 ≤ prefix_len is_word_byte text.now }
-    ensures value { IfOk result (λ found. found ≡ spec.piece_from (prefix_len is_word_byte text.now) (spec.word_token (spec.word_at text.now))) }
+    ensures value { IfOk result (λ found. found ≡ spec.piece_from
+        (prefix_len is_word_byte text.now)
+        (spec.word_token (spec.word_at text.now))) }
     ensures within { IfOk result (λ found. Moves (length text.now) found) }
 {
     let len = word_len(text);
@@ -188,23 +195,12 @@ fn word_at(alloc: Global, text: &[u8]) -> Result<Piece, AllocError>
     }
 }
 
-/// The longest sign that begins a text.
-#[tactic(auto, unfolding(crate::specs::Tokens::first_sign))]
-fn first_sign(text: &[u8]) -> Option<Sign>
-    ensures value { result ≡ spec.first_sign text.now }
-{
-    SIGNS
-        .iter()
-        .copied()
-        .find(|sign| text.starts_with(sign.text().as_bytes()))
-}
-
 /// The longest sign at the front of a text.
-fn sign_at(text: &[u8]) -> Piece
+fn sign_at(signs: &SignIndex, text: &[u8]) -> Piece
     ensures value { result ≡ spec.sign_at text.now }
     ensures within { Moves (length text.now) result }
 {
-    match first_sign(text) {
+    match signs.first_sign(text) {
         None => Piece::Bad,
         Some(sign) => Piece::Token(Token::Sign(sign), sign.text().len()),
     }
@@ -237,7 +233,7 @@ fn closing(text: &[u8]) -> Option<usize>
 }
 
 /// What begins with `/`: a comment or a sign.
-fn slash_at(text: &[u8]) -> Piece
+fn slash_at(signs: &SignIndex, text: &[u8]) -> Piece
     ensures value { result ≡ spec.slash_at text.now }
     ensures within { Moves (length text.now) result }
 {
@@ -247,7 +243,7 @@ fn slash_at(text: &[u8]) -> Piece
             Some(end) => Piece::Skip(end + 2),
         },
         [_, b'/', rest @ ..] => Piece::Skip(line_len(rest) + 2),
-        _ => sign_at(text),
+        _ => sign_at(signs, text),
     }
 }
 
@@ -273,7 +269,7 @@ fn hash_at(text: &[u8]) -> Piece
 
 /// The piece at the front of a text.
 #[tactic(auto, unfolding(crate::specs::Tokens::piece))]
-fn piece_at(alloc: Global, text: &[u8]) -> Result<Piece, AllocError>
+fn piece_at(alloc: Global, signs: &SignIndex, text: &[u8]) -> Result<Piece, AllocError>
     ensures value { IfOk result (λ found. found ≡ spec.piece text.now) }
     ensures within { IfOk result (λ found. Moves (length text.now) found) }
 {
@@ -287,9 +283,9 @@ fn piece_at(alloc: Global, text: &[u8]) -> Result<Piece, AllocError>
             } else if *b == b'#' {
                 Ok(hash_at(text))
             } else if *b == b'/' {
-                Ok(slash_at(text))
+                Ok(slash_at(signs, text))
             } else {
-                Ok(sign_at(text))
+                Ok(sign_at(signs, text))
             }
         }
     }
@@ -300,10 +296,11 @@ pub(crate) fn tokens_of(alloc: Global, text: &[u8]) -> Result<Vec<Token>, TextFa
     requires { length text.now ≤ 4294967295 }
     ensures { Cuts (λ list. list.items) text.now result }
 {
+    let signs = SignIndex::new(alloc)?;
     let mut tokens = Vec::new(alloc);
     let mut rest = text;
     loop {
-        match piece_at(alloc, rest)? {
+        match piece_at(alloc, &signs, rest)? {
             Piece::End => return Ok(tokens),
             Piece::Skip(len) => rest = &rest[len..],
             Piece::Token(token, len) => {

@@ -8,14 +8,17 @@ mod declarations;
 mod expressions;
 mod fault;
 mod lex;
+mod limits;
 mod operators;
 mod parse;
 mod read;
 mod reader;
+mod signs;
 mod statements;
 mod weigh;
 
 pub use fault::TextFault;
+pub use limits::{MAX_TEXT, MAX_WEIGHT};
 pub use read::read_program;
 
 #[cfg(test)]

@@ -1,4 +1,4 @@
-//! The operators of one level.
+//! The operators of one precedence level.
 
 ghost use Rattle.std.specs.Prelude.{◌≡◌};
 ghost use Rattle.domino_tree.specs.Operators.{operator_between};
@@ -7,7 +7,7 @@ ghost use Rattle.domino_syntax.specs.ReadingExpressions.{of_level};
 use domino_tree::{Sign, level, operator_between};
 use mp5_words::Op2;
 
-/// The operator of this level that a sign writes between two expressions.
+/// The operator of this precedence level that a sign writes between two expressions.
 pub(crate) fn operator_of_level(wanted: usize, sign: Sign) -> Option<Op2>
     ensures { result ≡ of_level wanted (operator_between sign) }
 {

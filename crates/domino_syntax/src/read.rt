@@ -10,17 +10,15 @@ ghost use Rattle.domino_syntax.specs.ProgramText.{IsProgramText, Refuses, IsRead
 
 use crate::fault::TextFault;
 use crate::lex::tokens_of;
+use crate::limits::MAX_TEXT;
 use crate::parse::program;
 use crate::weigh::heavy_at;
 use domino_tree::Program;
 use std::alloc::Global;
 
-/// The most bytes that a program text has.
-const MAX_TEXT: usize = 65536;
-
-/// Reads a text of at most 65,536 bytes.
+/// Reads a text that isn't too long.
 fn read_short(alloc: Global, text: &[u8]) -> Result<Program, TextFault>
-    requires { length text.now ≤ 65536 }
+    requires { length text.now ≤ MAX_TEXT }
     ensures read { IfOk result (λ program. IsProgramText text.now program) }
     ensures refused { IfErr result (λ f. f ≢ fault.NoMemory → Refuses text.now f) }
 {
@@ -45,7 +43,9 @@ pub fn read_program(alloc: Global, text: &[u8]) -> Result<Program, TextFault>
     // A text is refused only for what it is refused for, or for want of memory.
     ensures refused { IfErr result (λ f. f ≢ fault.NoMemory → Refuses text.now f) }
     // A program's text is read to it, unless memory runs out.
-    ensures accepts { (program : Program) → IsProgramText text.now program → IsReadAs result program }
+    ensures accepts { (program : Program)
+        → IsProgramText text.now program
+        → IsReadAs result program }
     // A text that is refused for something gets that answer, unless memory runs out.
     ensures refuses { (f : TextFault) → Refuses text.now f → IsRefusedFor result f }
     // What `print` writes of a program is read to it, where it has at most 65,536 bytes.

@@ -134,7 +134,7 @@ impl<'a> Reader<'a> {
         }
     }
 
-    /// Whether an operator before an expression comes next.
+    /// Whether a prefix operator comes next.
     pub fn sees_unary(&self) -> bool
         ensures { result ≡ spec.sees expressions.a_unary (first self.now) }
     {
@@ -144,7 +144,7 @@ impl<'a> Reader<'a> {
         }
     }
 
-    /// Whether an operator of this level comes next.
+    /// Whether an operator of this precedence level comes next.
     pub fn sees_binary(&self, level: usize) -> bool
         ensures { result ≡ spec.sees (expressions.a_binary level) (first self.now) }
     {
@@ -220,7 +220,7 @@ impl<'a> Reader<'a> {
         }
     }
 
-    /// An operator before an expression.
+    /// A prefix operator.
     #[tactic(auto, unfolding(crate::specs::ReadingExpressions::unary))]
     pub fn unary(&mut self) -> Result<Op1, Stop>
         ensures { Reads (expressions.unary self.old) result self.new }
@@ -237,7 +237,7 @@ impl<'a> Reader<'a> {
         }
     }
 
-    /// An operator of this level.
+    /// An operator of this precedence level.
     #[tactic(auto, unfolding(crate::specs::ReadingExpressions::binary))]
     pub fn binary(&mut self, level: usize) -> Result<Op2, Stop>
         ensures { Reads (expressions.binary level self.old) result self.new }

@@ -85,7 +85,8 @@ fn begins_statement(reader: &Reader<'_>) -> bool
 #[cycle(statement)]
 #[tactic(auto, unfolding(crate::specs::Parsers::repeat))]
 fn body(alloc: Global, reader: &mut Reader<'_>, depth: usize) -> Result<Items<Stmt>, Stop>
-    ensures { Reads (all_of spec.begins_statement (spec.statement depth) reader.old) result reader.new }
+    ensures { Reads (all_of spec.begins_statement (spec.statement depth) reader.old)
+        result reader.new }
 {
     let mut found = Items::new(alloc);
     for _turn in 0..reader.left() {

@@ -1,21 +1,20 @@
 //! The weight of tokens: how deep the brackets are, and how many operators stand in them.
 
 ghost use Rattle.std.specs.Prelude.{◌≡◌, ◌<◌, ◌≤◌, ◌∷◌, [], drop, true, MatchBool, MatchOption};
-ghost use Rattle.domino_tree.specs.Weight.{after_sign, after_token, cleared, counted, is_light, load};
+ghost use Rattle.domino_tree.specs.Weight.{after_sign, after_token, cleared, counted};
+ghost use Rattle.domino_tree.specs.Weight.{is_light, load};
 ghost use Rattle.domino_syntax.specs.Weighing.{IsHeavyAt, Takes};
 
+use crate::limits::MAX_WEIGHT;
 use domino_tree::{Effect, Sign, Token};
 use std::marker::Model;
-
-/// The weight that tokens may have.
-const MAX_WEIGHT: usize = 64;
 
 /// Counters on a stack, seen as the list of them, the top one first. They and their sum are at most 64
 /// together.
 #[derive(Drop)]
 struct Counters {
     /// The counters, from the top one on; what stands before it is free.
-    cells: [u8; 64],
+    cells: [u8; MAX_WEIGHT],
     /// The place of the top counter.
     top: usize,
     /// How many counters there are, and their sum.
@@ -25,12 +24,17 @@ struct Counters {
 impl Model for Counters {
     ghost use Rattle.std.specs.Prelude.{◌≡◌, ◌≤◌, ℕ, List, drop, length};
     ghost use Rattle.domino_tree.specs.Weight.{load as load_of};
+    ghost use Rattle.domino_syntax.specs.declared.limits.TheConstants.{MAX_WEIGHT};
 
     ghost Value = { List ℕ };
 
     ghost view = { λ c. drop c.top c.cells };
 
-    ghost invariant = { λ c. (c.top ≤ 64) × (length c.cells ≡ 64) × (c.load ≡ load_of (drop c.top c.cells)) × (c.load ≤ 64) };
+    ghost invariant = { λ c.
+        (c.top ≤ MAX_WEIGHT)
+        × (length c.cells ≡ MAX_WEIGHT)
+        × (c.load ≡ load_of (drop c.top c.cells))
+        × (c.load ≤ MAX_WEIGHT) };
 }
 
 impl Counters {
@@ -38,15 +42,15 @@ impl Counters {
         ensures { result ≡ [] }
     {
         Counters {
-            cells: [0; 64],
-            top: 64,
+            cells: [0; MAX_WEIGHT],
+            top: MAX_WEIGHT,
             load: 0,
         }
     }
 
     /// Whether the counters and their sum are at most 64 together.
     fn is_light(&self) -> bool
-        ensures { MatchBool result (load self.now ≤ 64) (64 < load self.now) }
+        ensures { MatchBool result (load self.now ≤ MAX_WEIGHT) (MAX_WEIGHT < load self.now) }
     {
         self.load <= MAX_WEIGHT
     }
@@ -68,7 +72,7 @@ impl Counters {
     fn close(&mut self)
         ensures { self.new ≡ drop 1 self.old }
     {
-        if self.top < 64 {
+        if self.top < MAX_WEIGHT {
             self.load -= 1 + self.cells[self.top] as usize;
             self.top += 1;
         }
@@ -78,7 +82,7 @@ impl Counters {
     fn clear(&mut self)
         ensures { self.new ≡ cleared self.old }
     {
-        if self.top < 64 {
+        if self.top < MAX_WEIGHT {
             self.load -= self.cells[self.top] as usize;
             self.cells[self.top] = 0;
         }
@@ -88,7 +92,7 @@ impl Counters {
     fn count(&mut self) -> bool
         ensures { Takes result self.new (counted self.old) }
     {
-        if self.top < 64 {
+        if self.top < MAX_WEIGHT {
             if self.load == MAX_WEIGHT {
                 return false;
             }

@@ -13,7 +13,7 @@ returns-clause-fields c =
     let sources = c.args.sources.now in
     let original = c.args.stamp.original in
     let ip = ipv4 c.args.frame.now in
-    let r : Record = record { moment = c.args.stamp.moment; original = original; frame = c.args.frame.now } in
+    let r : Record = record { timestamp = c.args.stamp.timestamp; original = original; frame = c.args.frame.now } in
     let passed : ℤ = to_z w32 (of_z w32 c.since.result) in
     let fits : FitsSigned w32 c.since.result = search rules in
     let since : passed ≡ arrival c.args.start r = to_z-of_z w32 c.since.result fits ∙ c.since.ensures in

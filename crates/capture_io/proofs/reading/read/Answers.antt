@@ -2,7 +2,7 @@ use Rattle.std.proofs.Common.{◌≡◌, ℕ, ◌*◌, ◌∙◌, length, map, s
 use Rattle.std.specs.Vec.{vec_len}
 use Rattle.std.proofs.lemmas.List.{length-map}
 use Rattle.capture_io.specs.Header.{source}
-use Rattle.capture_io.specs.Reading.{first_moment}
+use Rattle.capture_io.specs.Reading.{first_timestamp}
 use Rattle.capture_io.proofs.WholeCapture.{rows_fit, rows_read}
 use Rattle.capture_io.proofs.reading.read.Goals as goal
 
@@ -13,7 +13,7 @@ invariant_of-result c =
     let names = c.args.names.now in
     let e = c.in_ok-encoding.encoding in
     let rest = c.in_ok-encoding.records.now in
-    let fit = rows_fit names e (first_moment e rest) rest c.in_ok-words.words.items c.in_ok-words.packets given in
+    let fit = rows_fit names e (first_timestamp e rest) rest c.in_ok-words.words.items c.in_ok-words.packets given in
     let width : c.count.result ≡ length (map source names) = c.count.ensures.count ∙ sym (length-map names source) in
     let len : vec_len c.in_ok-words.words ≡ length c.in_ok-words.words.items = omega (arith, c.in_ok-words.words.ok.0) in
     (len ∙ (fit.0 ∙ ap (λ (k : ℕ). c.in_ok-words.packets * k) (sym width)), fit.1, c.count.ensures.limit)
