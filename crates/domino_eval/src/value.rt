@@ -111,8 +111,9 @@ fn place_of(checked: &Checked, array: u32, fields: &[i32]) -> u32
     }
 }
 
-/// The place of the cell of an array that its index names. It is computed where the array is touched first, and
-/// kept from then on. Past them all nothing is kept.
+/// The place of the cell of an array that its index names. It is computed where the array is touched first,
+/// and kept from then on. Past them all nothing is kept.
+#[inline]
 pub(crate) fn touch(
     checked: &Checked,
     array: u32,
@@ -125,13 +126,27 @@ pub(crate) fn touch(
     ensures kept { ArePlaces (indexing checked.now) fields.now places.new }
 {
     let slot = array as usize;
-    if slot >= places.len() {
-        return place_of(checked, array, fields) as usize;
+    if slot < places.len() {
+        if let Some(place) = places[slot] {
+            return place as usize;
+        }
     }
-    if let Some(place) = places[slot] {
+    touch_first(checked, array, fields, places)
+}
+
+// The same, where the place is computed. It is apart so that `touch` is short where it is called.
+#[inline(never)]
+fn touch_first(checked: &Checked, array: u32, fields: &[i32], places: &mut [Option<u32>]) -> usize
+    requires { ArePlaces (indexing checked.now) fields.now places.old }
+    ensures place { result ≡ place (indexing checked.now) array fields.now }
+    ensures touched { marks places.new ≡ touching (array ∷ []) (marks places.old) }
+    ensures kept { ArePlaces (indexing checked.now) fields.now places.new }
+{
+    let place = place_of(checked, array, fields);
+    let slot = array as usize;
+    if slot >= places.len() {
         return place as usize;
     }
-    let place = place_of(checked, array, fields);
     places[slot] = Some(place);
     place as usize
 }
