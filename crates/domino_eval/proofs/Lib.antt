@@ -1,1 +1,2 @@
 pub mod EvalLemmas
+pub mod PlaceLemmas

@@ -3,6 +3,7 @@ ghost use Rattle.domino_tree.specs.Value.{names_of, cell_counts};
 ghost use Rattle.mp5_words.specs.Cells.{word_at, cells_at, bits};
 ghost use Rattle.domino_tree.specs.Sequential.{start_cells};
 ghost use Rattle.domino_eval.specs.Parts.{executed};
+ghost use Rattle.domino_eval.specs.Places.{marks};
 
 use crate::execution::run_block;
 use domino_check::Checked;
@@ -21,8 +22,8 @@ pub struct Bench<'a> {
 }
 
 impl<'a> Model for Bench<'a> {
-    ghost use Rattle.domino_tree.specs.Value.{names_of, HasCells};
     ghost use Rattle.domino_eval.specs.Parts.{Held, held_code};
+    ghost use Rattle.domino_eval.specs.Places.{IsBench};
 
     ghost Value = { Held };
 
@@ -30,7 +31,7 @@ impl<'a> Model for Bench<'a> {
 
     ghost view = { λ b. record { program = b.checked.now; cells = b.cells.items } };
 
-    ghost invariant = { λ b. HasCells (names_of b.checked.now) b.cells.items };
+    ghost invariant = { λ b. IsBench b.checked.now b.cells.items };
 }
 
 impl<'a> Bench<'a> {
@@ -38,6 +39,8 @@ impl<'a> Bench<'a> {
     pub fn new(alloc: Global, checked: &'a Checked) -> Result<Bench<'a>, NoMemory>
         ensures { IfOk result (λ bench. bench ≡ record { program = checked.now; cells = start_cells (names_of checked.now) }) }
     {
+        // It passed the checks, so no index of a touched array moves.
+        let _program = checked.program();
         let cells = started(alloc, checked)?;
         Ok(Bench { checked, cells })
     }
@@ -49,17 +52,17 @@ impl<'a> Bench<'a> {
         ensures cells { self.new ≡ record { program = self.old.program; cells = (executed self.old fields.old).store.cells } }
         ensures touched { result ≡ bits (executed self.old fields.old).touched }
     {
-        let mut marks = [false; 16];
+        let mut kept = [None; 16];
         let count = self.checked.arrays().len();
-        let touched = &mut marks[..count];
+        let places = &mut kept[..count];
         run_block(
             self.checked,
             self.checked.body(),
             fields,
             &mut self.cells,
-            touched,
+            places,
         );
-        set_of(touched)
+        set_of(places)
     }
 
     /// Cell `i` of an array.
@@ -83,15 +86,15 @@ fn started(alloc: Global, checked: &Checked) -> Result<Vec<Items<i32>>, AllocErr
     Ok(all)
 }
 
-// The set as a number: bit a for array a.
-fn set_of(touched: &[bool]) -> u16
-    requires { length touched.now ≤ 16 }
-    ensures { result ≡ bits touched.now }
+// The set of the arrays whose place is kept, as a number: bit a for array a.
+fn set_of(places: &[Option<u32>]) -> u16
+    requires { length places.now ≤ 16 }
+    ensures { result ≡ bits (marks places.now) }
 {
     let mut set = 0;
-    let count = touched.len();
+    let count = places.len();
     for k in 0..count {
-        set = 2 * set + u16::from(touched[count - 1 - k]);
+        set = 2 * set + u16::from(places[count - 1 - k].is_some());
     }
     set
 }
@@ -103,7 +106,7 @@ mod tests {
     #[test]
     fn array_a_is_bit_a(rt: HostRuntime) {
         assert_eq!(rt; set_of(&[]), 0);
-        assert_eq!(rt; set_of(&[true, false, true]), 5);
-        assert_eq!(rt; set_of(&[true; 16]), 65535);
+        assert_eq!(rt; set_of(&[Some(7), None, Some(0)]), 5);
+        assert_eq!(rt; set_of(&[Some(0); 16]), 65535);
     }
 }

@@ -1,9 +1,11 @@
 //! The value of an expression in numbers.
-ghost use Rattle.std.specs.Prelude.{◌≡◌, ◌∷◌, [], ℕ, List, ℤ, map, flat_map, slice_set};
+ghost use Rattle.std.specs.Prelude.{◌≡◌, ◌≤◌, ◌∷◌, [], ℕ, List, ℤ, map, flat_map, slice_set};
 ghost use Rattle.domino_tree.specs.Value.{Store};
+ghost use Rattle.mp5_words.specs.Words.{cell};
 ghost use Rattle.mp5_words.specs.Cells.{word_at, cells_at, picked, touching, hash_all};
 ghost use Rattle.domino_check.specs.NumberedMeaning.{indexing, plain_value, place, numbered_value, numbered_arrays};
 ghost use Rattle.domino_eval.specs.Parts.{store};
+ghost use Rattle.domino_eval.specs.Places.{marks, ArePlaces};
 
 use domino_check::{Checked, CheckedExpr};
 use mp5_words::{HashKind, apply1, apply2, cell_of, hash};
@@ -59,7 +61,8 @@ fn plain_value(expr: &CheckedExpr, fields: &[i32]) -> i32
 // The hash of the arguments.
 #[cycle(plain_value)]
 fn plain_hash(kind: HashKind, args: &[CheckedExpr], fields: &[i32]) -> i32
-    ensures { result ≡ hash_all kind (map (λ (a : List ℤ → ℤ). a fields.now) (map plain_value args.now)) }
+    ensures { result
+        ≡ hash_all kind (map (λ (a : List ℤ → ℤ). a fields.now) (map plain_value args.now)) }
 {
     hash(
         kind,
@@ -72,7 +75,8 @@ fn plain_hash(kind: HashKind, args: &[CheckedExpr], fields: &[i32]) -> i32
 // The value of an argument; 0 past them all.
 #[cycle(plain_value)]
 fn plain_argument(args: &[CheckedExpr], place: usize, fields: &[i32]) -> i32
-    ensures { result ≡ word_at (map (λ (a : List ℤ → ℤ). a fields.now) (map plain_value args.now)) place }
+    ensures { result
+        ≡ word_at (map (λ (a : List ℤ → ℤ). a fields.now) (map plain_value args.now)) place }
 {
     if place < args.len() {
         plain_value(&args[place], fields)
@@ -81,8 +85,20 @@ fn plain_argument(args: &[CheckedExpr], place: usize, fields: &[i32]) -> i32
     }
 }
 
-/// The place of the cell of an array that its index names.
-pub(crate) fn place_of(checked: &Checked, array: u32, fields: &[i32]) -> usize
+// The number of the cell that the word names. Where the word is one, nothing is divided.
+fn cell_named(index: i32, length: u32) -> u32
+    requires least { 1 ≤ length }
+    requires most { length ≤ 65536 }
+    ensures { result ≡ cell index length }
+{
+    match u32::try_from(index) {
+        Ok(number) if number < length => number,
+        _ => cell_of(index, length),
+    }
+}
+
+// The place of the cell of an array that its index names.
+fn place_of(checked: &Checked, array: u32, fields: &[i32]) -> u32
     ensures { result ≡ place (indexing checked.now) array fields.now }
 {
     let arrays = checked.arrays();
@@ -90,19 +106,49 @@ pub(crate) fn place_of(checked: &Checked, array: u32, fields: &[i32]) -> usize
         return 0;
     }
     match checked.index(array) {
-        Some(index) => cell_of(plain_value(index, fields), arrays[array as usize].length) as usize,
+        Some(index) => cell_named(plain_value(index, fields), arrays[array as usize].length),
         None => 0,
     }
 }
 
-/// These arrays are touched: the array is marked. Past them all nothing is marked.
-pub(crate) fn mark(touched: &mut [bool], array: u32)
-    ensures { touched.new ≡ touching (array ∷ []) touched.old }
+/// The place of the cell of an array that its index names. It is computed where the array is touched first,
+/// and kept from then on. Past them all nothing is kept.
+#[inline]
+pub(crate) fn touch(
+    checked: &Checked,
+    array: u32,
+    fields: &[i32],
+    places: &mut [Option<u32>],
+) -> usize
+    requires { ArePlaces (indexing checked.now) fields.now places.old }
+    ensures place { result ≡ place (indexing checked.now) array fields.now }
+    ensures touched { marks places.new ≡ touching (array ∷ []) (marks places.old) }
+    ensures kept { ArePlaces (indexing checked.now) fields.now places.new }
 {
-    let array = array as usize;
-    if array < touched.len() {
-        touched[array] = true;
+    let slot = array as usize;
+    if slot < places.len() {
+        if let Some(place) = places[slot] {
+            return place as usize;
+        }
     }
+    touch_first(checked, array, fields, places)
+}
+
+// The same, where the place is computed. It is apart so that `touch` is short where it is called.
+#[inline(never)]
+fn touch_first(checked: &Checked, array: u32, fields: &[i32], places: &mut [Option<u32>]) -> usize
+    requires { ArePlaces (indexing checked.now) fields.now places.old }
+    ensures place { result ≡ place (indexing checked.now) array fields.now }
+    ensures touched { marks places.new ≡ touching (array ∷ []) (marks places.old) }
+    ensures kept { ArePlaces (indexing checked.now) fields.now places.new }
+{
+    let place = place_of(checked, array, fields);
+    let slot = array as usize;
+    if slot >= places.len() {
+        return place as usize;
+    }
+    places[slot] = Some(place);
+    place as usize
 }
 
 // The word of an array's cell that its index names. The array is touched.
@@ -111,13 +157,15 @@ fn cell_value(
     array: u32,
     fields: &[i32],
     cells: &[Items<i32>],
-    touched: &mut [bool],
+    places: &mut [Option<u32>],
 ) -> i32
-    ensures value { result ≡ word_at (cells_at cells.now array) (place (indexing checked.now) array fields.now) }
-    ensures touched { touched.new ≡ touching (array ∷ []) touched.old }
+    requires { ArePlaces (indexing checked.now) fields.now places.old }
+    ensures value { result
+        ≡ word_at (cells_at cells.now array) (place (indexing checked.now) array fields.now) }
+    ensures touched { marks places.new ≡ touching (array ∷ []) (marks places.old) }
+    ensures kept { ArePlaces (indexing checked.now) fields.now places.new }
 {
-    mark(touched, array);
-    let place = place_of(checked, array, fields);
+    let place = touch(checked, array, fields, places);
     let array = array as usize;
     if array < cells.len() {
         word_at(cells[array].as_slice(), place)
@@ -133,29 +181,32 @@ pub(crate) fn value(
     expr: &CheckedExpr,
     fields: &[i32],
     cells: &[Items<i32>],
-    touched: &mut [bool],
+    places: &mut [Option<u32>],
 ) -> i32
-    ensures value { result ≡ numbered_value (indexing checked.now) expr.now (store fields.now cells.now) }
-    ensures touched { touched.new ≡ touching (numbered_arrays expr.now) touched.old }
+    requires { ArePlaces (indexing checked.now) fields.now places.old }
+    ensures value { result
+        ≡ numbered_value (indexing checked.now) expr.now (store fields.now cells.now) }
+    ensures touched { marks places.new ≡ touching (numbered_arrays expr.now) (marks places.old) }
+    ensures kept { ArePlaces (indexing checked.now) fields.now places.new }
 {
     match expr {
         CheckedExpr::Number(number) => *number,
         CheckedExpr::Field(field) => word_at(fields, *field as usize),
-        CheckedExpr::Cell(array) => cell_value(checked, *array, fields, cells, touched),
-        CheckedExpr::One(op, a) => apply1(*op, operand(checked, a.get(), fields, cells, touched)),
+        CheckedExpr::Cell(array) => cell_value(checked, *array, fields, cells, places),
+        CheckedExpr::One(op, a) => apply1(*op, operand(checked, a.get(), fields, cells, places)),
         CheckedExpr::Two(op, a, b) => {
-            let left = operand(checked, a.get(), fields, cells, touched);
-            let right = operand(checked, b.get(), fields, cells, touched);
+            let left = operand(checked, a.get(), fields, cells, places);
+            let right = operand(checked, b.get(), fields, cells, places);
             apply2(*op, left, right)
         }
         CheckedExpr::Pick(cond, a, b) => {
-            let held = operand(checked, cond.get(), fields, cells, touched);
-            let first = operand(checked, a.get(), fields, cells, touched);
-            let second = operand(checked, b.get(), fields, cells, touched);
+            let held = operand(checked, cond.get(), fields, cells, places);
+            let first = operand(checked, a.get(), fields, cells, places);
+            let second = operand(checked, b.get(), fields, cells, places);
             picked(held, first, second)
         }
         CheckedExpr::Hash(kind, args) => {
-            hash_value(checked, *kind, args.as_slice(), fields, cells, touched)
+            hash_value(checked, *kind, args.as_slice(), fields, cells, places)
         }
     }
 }
@@ -168,15 +219,18 @@ fn operand(
     expr: &CheckedExpr,
     fields: &[i32],
     cells: &[Items<i32>],
-    touched: &mut [bool],
+    places: &mut [Option<u32>],
 ) -> i32
-    ensures value { result ≡ numbered_value (indexing checked.now) expr.now (store fields.now cells.now) }
-    ensures touched { touched.new ≡ touching (numbered_arrays expr.now) touched.old }
+    requires { ArePlaces (indexing checked.now) fields.now places.old }
+    ensures value { result
+        ≡ numbered_value (indexing checked.now) expr.now (store fields.now cells.now) }
+    ensures touched { marks places.new ≡ touching (numbered_arrays expr.now) (marks places.old) }
+    ensures kept { ArePlaces (indexing checked.now) fields.now places.new }
 {
     match expr {
         CheckedExpr::Number(number) => *number,
         CheckedExpr::Field(field) => word_at(fields, *field as usize),
-        _ => value(checked, expr, fields, cells, touched),
+        _ => value(checked, expr, fields, cells, places),
     }
 }
 
@@ -188,14 +242,18 @@ fn hash_value(
     args: &[CheckedExpr],
     fields: &[i32],
     cells: &[Items<i32>],
-    touched: &mut [bool],
+    places: &mut [Option<u32>],
 ) -> i32
-    ensures value { result ≡ hash_all kind (map (λ (a : Store → ℤ). a (store fields.now cells.now)) (map (numbered_value (indexing checked.now)) args.now)) }
-    ensures touched { touched.new ≡ touching (flat_map (λ (a : List ℕ). a) (map numbered_arrays args.now)) touched.old }
+    requires { ArePlaces (indexing checked.now) fields.now places.old }
+    ensures value { result ≡ hash_all kind (map (λ (a : Store → ℤ). a (store fields.now cells.now))
+        (map (numbered_value (indexing checked.now)) args.now)) }
+    ensures touched { marks places.new
+        ≡ touching (flat_map (λ (a : List ℕ). a) (map numbered_arrays args.now)) (marks places.old) }
+    ensures kept { ArePlaces (indexing checked.now) fields.now places.new }
 {
     let mut words = [0; 3];
     for (place, arg) in args.iter().enumerate() {
-        let word = operand(checked, arg, fields, cells, touched);
+        let word = operand(checked, arg, fields, cells, places);
         put(&mut words, place, word);
     }
     hash(kind, words[0], words[1], words[2])

@@ -123,6 +123,12 @@ pub puts_last : {T E : Type 0} (whole piece : List ℕ) (s t u : At) (r : Result
 puts_last whole piece s t u (Ok x) g w = goes_end whole [] s u refl (goes_on whole piece piece [] s t u (sym (append-nil piece)) g w)
 puts_last whole piece s t u (Err e) g b = goes_broken whole piece piece [] s t u (sym (append-nil piece)) g b
 
+-- a result tells of a text what it tells of what is written last
+pub puts_through : {T E : Type 0} (r : Result T E) (last : List ℕ) (v w : SinkView) (text : List ℕ) (s u : At) → OnOk r (Grew last v w) → OnErr r (Stopped last v w)
+    → (Grew last v w → Wrote text s u) → (Stopped last v w → Broke text s u) → Puts text s u r
+puts_through (Ok x) last v w text s u ok err whole broke = whole ok
+puts_through (Err e) last v w text s u ok err whole broke = broke err
+
 -- what waits is on its way too, where nothing waited before
 pub took_flushed : (text : List ℕ) (s t : At) (new : Option (List ℕ)) → s.waits ≡ [] → Wrote text s t → TookFront t.taken new t.waits → TookFront s.taken new text
 took_flushed text s t new empty w took =

@@ -118,7 +118,7 @@ Cause status.ReadFault r old new = RoseFor r.program old new ⊎ (IfSome (old.to
 Cause status.WriteFault r old new = IsRunnable r old
 Cause status.NoMemory r old new = Unit {0}
 
--- what the output gains by this answer to a request: the report, a front of it where a write failed, or nothing
+-- what the output gains by this answer to a request: the report, a prefix of it where a write failed, or nothing
 abbrev pub Gained : Status → Request → StoreView → SinkView → SinkView → Type 0
 Gained status.Done r store old new = OfReport r store (λ text. new.taken ≡ gained text old.taken)
 Gained status.WriteFault r store old new = Rose old.faults new.faults × OfReport r store (TookFront old.taken new.taken)

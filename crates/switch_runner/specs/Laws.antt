@@ -60,7 +60,7 @@ pub record StopsAt (r : Request) (old new : StoreView) (answer : Status) : Type 
 abbrev pub StopsAtProgram : {Z : Type 0} → List (String Z) → StoreView → StoreView → Status → Type 0
 StopsAtProgram words old new answer = IfSome (request words) (λ r. StopsAt r old new answer)
 
--- a sink has gained what tells of this answer: a front of it where a write failed, and nothing for Done
+-- a sink has gained what tells of this answer: a prefix of it where a write failed, and nothing for Done
 pub record Tells (answer : Status) (old new : SinkView) : Type 0 where
   pub whole : ¬ Rose old.faults new.faults → new.taken ≡ gained (line answer) old.taken
   pub front : TookFront old.taken new.taken (line answer)

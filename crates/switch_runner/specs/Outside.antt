@@ -36,7 +36,7 @@ pub record IsKept (old new : StoreView) : Type 0 where
 abbrev pub gained : List ℕ → Option (List ℕ) → Option (List ℕ)
 gained bytes = option_map (λ old. old ++ bytes)
 
--- a sink took a front of these bytes, possibly none of them
+-- a sink took a prefix of these bytes, possibly none of them
 abbrev pub TookFront : Option (List ℕ) → Option (List ℕ) → List ℕ → Type 0
 TookFront old new bytes = (n : ℕ) × (new ≡ gained (take n bytes) old)
 
@@ -45,7 +45,7 @@ pub record Grew (text : List ℕ) (old new : SinkView) : Type 0 where
   pub taken : new.taken ≡ gained text old.taken
   pub later : old.faults ≤ new.faults
 
--- a sink grew by a front of this text, possibly none of it, and its count rose
+-- a sink grew by a prefix of this text, possibly none of it, and its count rose
 pub record Stopped (text : List ℕ) (old new : SinkView) : Type 0 where
   pub front : TookFront old.taken new.taken text
   pub later : old.faults ≤ new.faults

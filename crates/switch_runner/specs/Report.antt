@@ -3,6 +3,7 @@ use Rattle.std.specs.Prelude.{◌≡◌, ℕ, ◌+◌, ℤ, if◌then◌else◌,
 use Rattle.std.specs.Fmt.{signed_decimal}
 use Rattle.std.specs.List.{flat_map}
 use Rattle.std.specs.Ordering.{int_eq}
+use Rattle.capture_io.specs.Rows.{rows}
 use Rattle.domino_tree.specs.declared.program.Program.{Program}
 use Rattle.domino_tree.specs.Value.{names_of, cell_counts}
 use Rattle.domino_tree.specs.Sequential.{one}
@@ -80,6 +81,10 @@ text_of = flat_map (λ line. line)
 -- the text of a run
 abbrev pub run_text : List (List ℕ) → List ArrayInfo → List (List ℤ) → List (List ℤ) → ℕ → List ℕ
 run_text labels infos packets cells n = text_of (run_lines labels infos packets cells n)
+
+-- the same, where the packets stand one after another in one list of words
+abbrev pub table_text : List (List ℕ) → List ArrayInfo → ℕ → List ℤ → List (List ℤ) → List ℕ
+table_text labels infos n words cells = run_text labels infos (rows n (length labels) words) cells n
 
 -- the lines of the report of the sequential run over these headers
 abbrev pub report_lines : Program → List (List ℤ) → List (List ℕ)

@@ -17,7 +17,7 @@ pub record Wrote (text : List ℕ) (old new : At) : Type 0 where
   pub front : TookFront old.taken new.taken (old.waits ++ text)
   pub later : old.faults ≤ new.faults
 
--- a write failed on the way: a front of all that waited and the text was taken
+-- a write failed on the way: a prefix of all that waited and the text was taken
 pub record Broke (text : List ℕ) (old new : At) : Type 0 where
   pub front : TookFront old.taken new.taken (old.waits ++ text)
   pub later : old.faults ≤ new.faults

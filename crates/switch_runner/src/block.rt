@@ -40,7 +40,8 @@ impl Block {
     /// larger than the block is written by itself. Takes no memory.
     #[inline]
     pub(crate) fn put<K: Sink>(&mut self, out: &mut K, piece: &[u8]) -> Result<(), Failed>
-        ensures { Puts piece.now (at self.old (K.seen out.old)) (at self.new (K.seen out.new)) result }
+        ensures { Puts piece.now
+            (at self.old (K.seen out.old)) (at self.new (K.seen out.new)) result }
     {
         if self.add(piece) {
             return Ok(());
@@ -52,19 +53,14 @@ impl Block {
     #[cold]
     #[inline(never)]
     fn put_past<K: Sink>(&mut self, out: &mut K, piece: &[u8]) -> Result<(), Failed>
-        ensures { Puts piece.now (at self.old (K.seen out.old)) (at self.new (K.seen out.new)) result }
+        ensures { Puts piece.now
+            (at self.old (K.seen out.old)) (at self.new (K.seen out.new)) result }
     {
-        match self.flush(out) {
-            Ok(()) => {}
-            Err(failed) => return Err(failed),
-        }
+        self.flush(out)?;
         if self.add(piece) {
             return Ok(());
         }
-        match write_all(out, piece) {
-            Ok(()) => Ok(()),
-            Err(failed) => Err(failed),
-        }
+        write_all(out, piece)
     }
 
     /// Writes what waits.

@@ -38,7 +38,8 @@ pub(crate) fn asked<'a>(alloc: Global, words: &'a [String]) -> Result<Request<'a
 // The words, matched against the command.
 fn matched<'a>(alloc: Global, words: &'a [String]) -> Result<ArgMatches<'a>, Error>
     ensures fails { FailsBy (command.faults (map string_bytes words.entry.now)) result }
-    ensures rows { IfOk result (λ m. rows_of (found_of m) ≡ command.arguments (map string_bytes words.entry.now)) }
+    ensures rows { IfOk result
+        (λ m. rows_of (found_of m) ≡ command.arguments (map string_bytes words.entry.now)) }
 {
     let command = command(alloc)?;
     command.try_get_matches_from(words)

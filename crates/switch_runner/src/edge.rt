@@ -57,7 +57,8 @@ impl<R: Files + AllocGlobal> Store for FileStore<R> {
             (counts_seen self.new.names.items) result }
         ensures quiet { OnOk result
             (faults_of self.new.names.items name.now ≡ faults_of self.old.names.items name.now) }
-        ensures listed { OnOk result (is_some (position (named name.now) self.new.names.items) ≡ true) }
+        ensures listed { OnOk result
+            (is_some (position (named name.now) self.new.names.items) ≡ true) }
     {
         let place = listed(self.rt.alloc(), &mut self.names, name)?;
         match read_piece(&self.rt, &mut self.last, place, name, at, into) {
@@ -160,8 +161,8 @@ impl Sink for OutSink {
     fn write(&mut self, piece: &[u8]) -> Result<usize, Failed>
         ensures within { IfOk result (λ n. n ≤ length piece.now) }
         ensures some { IfOk result (λ n. 0 < length piece.now → 0 < n) }
-        ensures ok { IfOk result
-            (λ n. Grew (take n piece.now) (untold_seen self.old.faults) (untold_seen self.new.faults)) }
+        ensures ok { IfOk result (λ n. Grew (take n piece.now)
+            (untold_seen self.old.faults) (untold_seen self.new.faults)) }
         ensures err { OnErr result
             (Stopped piece.now (untold_seen self.old.faults) (untold_seen self.new.faults)) }
         ensures quiet { OnOk result (self.new.faults ≡ self.old.faults) }

@@ -29,10 +29,7 @@ fn write_pieces<K: Sink>(err: &mut K, pieces: &[&[u8]]) -> Result<(), Failed>
         (K.seen err.old) (K.seen err.new) result }
 {
     for piece in pieces {
-        match write_text(err, piece) {
-            Ok(()) => {}
-            Err(failed) => return Err(failed),
-        }
+        write_text(err, piece)?;
     }
     Ok(())
 }
@@ -114,14 +111,16 @@ fn write_name<K: Sink>(err: &mut K, text: &[u8], name: &Name) -> Result<(), Fail
 
 // Writes a line of a text, and a word and digits with a space between them.
 fn write_pair<K: Sink>(err: &mut K, text: &[u8], word: &[u8], digits: &[u8]) -> Result<(), Failed>
-    ensures { Writes (with_pair text.now word.now digits.now) (K.seen err.old) (K.seen err.new) result }
+    ensures { Writes (with_pair text.now word.now digits.now)
+        (K.seen err.old) (K.seen err.new) result }
 {
     write_pieces(err, &[text, word, b" ", digits, b"\n"])
 }
 
 // Writes the line of a length that is refused.
 fn write_length<K: Sink>(err: &mut K, text: &[u8], name: &Name, length: i32) -> Result<(), Failed>
-    ensures { Writes (with_pair text.now name.now (signed_decimal length)) (K.seen err.old) (K.seen err.new) result }
+    ensures { Writes (with_pair text.now name.now (signed_decimal length))
+        (K.seen err.old) (K.seen err.new) result }
 {
     let mut digits = Buffer::new();
     write_pair(err, text, name.bytes(), digits.format(length).as_bytes())
@@ -141,7 +140,8 @@ fn what_word(what: What) -> &'static [u8]
 
 // Writes the line of a count that is past its limit.
 fn write_count<K: Sink>(err: &mut K, text: &[u8], what: What, n: u64) -> Result<(), Failed>
-    ensures { Writes (with_pair text.now (what_word what) (decimal n)) (K.seen err.old) (K.seen err.new) result }
+    ensures { Writes (with_pair text.now (what_word what) (decimal n))
+        (K.seen err.old) (K.seen err.new) result }
 {
     let mut digits = Buffer::new();
     write_pair(err, text, what_word(what), digits.format(n).as_bytes())

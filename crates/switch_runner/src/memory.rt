@@ -47,7 +47,7 @@ impl NamedBytes {
         self.name.bytes() == name.as_bytes()
     }
 
-    // Puts the bytes from `at` on into a front of `into`, and says how many.
+    // Puts the bytes from `at` on into a prefix of `into`, and says how many.
     fn copy_from(&self, at: u64, into: &mut [u8]) -> usize
         ensures count { result ≡ min (length into.old) (length self.now.bytes - at) }
         ensures copied { take result into.new ≡ take result (drop at self.now.bytes) }
@@ -123,7 +123,8 @@ impl Store for MemoryStore {
         requires { at ≤ MAX_CAPTURE + 1 }
         ensures piece { IfOk result
             (λ n. ReadsPiece (file_of self.old.files name.now).bytes at n into.new) }
-        ensures reads { Reads name.now (files_seen self.old.files) (files_seen self.new.files) result }
+        ensures reads { Reads name.now
+            (files_seen self.old.files) (files_seen self.new.files) result }
         // The count of the name rises only where the read fails, and then by one.
         ensures quiet { OnOk result
             (faults_of self.new.files name.now ≡ faults_of self.old.files name.now) }
@@ -176,8 +177,13 @@ impl MemorySink {
     /// 1, and those whose numbers stand in `fails` fail, as does a write for which memory runs out.
     pub fn new(bytes: Vec<u8>, most: u32, fails: Vec<u64>) -> MemorySink
         requires { 0 < most }
-        ensures { result
-            ≡ record { bytes = bytes.items; most = most; fails = fails.items; writes = 0; faults = 0 } }
+        ensures { result ≡ record {
+          bytes = bytes.items;
+          most = most;
+          fails = fails.items;
+          writes = 0;
+          faults = 0;
+        } }
     {
         MemorySink {
             bytes,
@@ -207,7 +213,8 @@ impl Sink for MemorySink {
         ensures taken { IfOk result (λ n. n ≡ min (length piece.now) self.old.most) }
         ensures after { OnOk result (self.new ≡ poured self.old piece.now) }
         ensures after_failure { OnErr result (self.new ≡ refused self.old) }
-        ensures fails { list_any (λ n. n == next self.old.writes) self.old.fails ≡ true → IsErr result }
+        ensures fails { list_any (λ n. n == next self.old.writes) self.old.fails ≡ true
+            → IsErr result }
     {
         self.writes = self.writes.saturating_add(1);
         let count = piece.len().min(self.most as usize);

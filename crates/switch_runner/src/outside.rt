@@ -33,7 +33,7 @@ impl From<AllocError> for StoreFault {
 pub trait Store {
     ghost seen: { Self → StoreView };
 
-    /// Reads bytes of `name` from byte `at` on into a front of `into`, and says how many. 0 for a piece
+    /// Reads bytes of `name` from byte `at` on into a prefix of `into`, and says how many. 0 for a piece
     /// that isn't empty is the end.
     fn read_at(&mut self, name: &str, at: u64, into: &mut [u8]) -> Result<usize, StoreFault>
         requires { at ≤ MAX_CAPTURE + 1 }
@@ -47,8 +47,8 @@ pub trait Store {
 pub trait Sink {
     ghost seen: { Self → SinkView };
 
-    /// Takes a front of `piece`, and says how many bytes: at least one of a piece that isn't empty. A
-    /// write that fails may have taken a front of the piece.
+    /// Takes a prefix of `piece`, and says how many bytes: at least one of a piece that isn't empty. A
+    /// write that fails may have taken a prefix of the piece.
     fn write(&mut self, piece: &[u8]) -> Result<usize, Failed>
         ensures within { IfOk result (λ n. n ≤ length piece.now) }
         ensures some { IfOk result (λ n. 0 < length piece.now → 0 < n) }

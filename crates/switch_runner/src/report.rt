@@ -7,7 +7,7 @@ ghost use Rattle.mp5_words.specs.Cells.{cells_at};
 ghost use Rattle.switch_runner.specs.Outside.{Grew, Stopped};
 ghost use Rattle.domino_tree.specs.Value.{names_of, cell_counts};
 ghost use Rattle.switch_runner.specs.Writing.{Puts, at};
-ghost use Rattle.switch_runner.specs.Report.{fields_text, packet_line, packet_lines, register_line, cell_line, cell_lines, register_lines, AreDeclared, HasCells, done_line, run_text, text_of};
+ghost use Rattle.switch_runner.specs.Report.{fields_text, packet_line, packet_lines, register_line, cell_line, cell_lines, register_lines, AreDeclared, HasCells, done_line, table_text, text_of};
 
 use crate::block::Block;
 use crate::outside::{Failed, Sink};
@@ -23,10 +23,7 @@ fn put_all<K: Sink>(block: &mut Block, out: &mut K, pieces: &[&[u8]]) -> Result<
         (at block.old (K.seen out.old)) (at block.new (K.seen out.new)) result }
 {
     for piece in pieces {
-        match block.put(out, piece) {
-            Ok(()) => {}
-            Err(failed) => return Err(failed),
-        }
+        block.put(out, piece)?;
     }
     Ok(())
 }
@@ -58,10 +55,7 @@ fn put_fields<K: Sink>(
         (at block.old (K.seen out.old)) (at block.new (K.seen out.new)) result }
 {
     for (i, label) in labels.iter().enumerate() {
-        match put_field(block, out, label.as_slice(), values[i]) {
-            Ok(()) => {}
-            Err(failed) => return Err(failed),
-        }
+        put_field(block, out, label.as_slice(), values[i])?;
     }
     Ok(())
 }
@@ -94,17 +88,15 @@ fn put_packets<K: Sink>(
     packets: &[i32],
 ) -> Result<(), Failed>
     requires { length packets.now ≡ count * length labels.now }
-    ensures { Puts (text_of (packet_lines labels.now 0 (rows count (length labels.now) packets.now)))
+    ensures { Puts
+        (text_of (packet_lines labels.now 0 (rows count (length labels.now) packets.now)))
         (at block.old (K.seen out.old)) (at block.new (K.seen out.new)) result }
 {
     let width = labels.len();
     let mut rest = packets;
     for t in 0..count {
         let (packet, later) = rest.split_at(width);
-        match put_packet(block, out, t, labels, packet) {
-            Ok(()) => {}
-            Err(failed) => return Err(failed),
-        }
+        put_packet(block, out, t, labels, packet)?;
         rest = later;
     }
     Ok(())
@@ -191,16 +183,14 @@ fn put_cells<K: Sink>(
     array: u32,
 ) -> Result<(), Failed>
     requires array { array < length (names_of bench.now.program).arrays }
-    requires declared { slice_index (cell_counts (names_of bench.now.program)) array ≡ info.now.length }
+    requires declared { slice_index (cell_counts (names_of bench.now.program)) array
+        ≡ info.now.length }
     requires cells { length (cells_at bench.now.cells array) ≡ info.now.length }
     ensures { Puts (text_of (cell_lines info.now 0 (cells_at bench.now.cells array)))
         (at block.old (K.seen out.old)) (at block.new (K.seen out.new)) result }
 {
     for i in 0..info.length {
-        match put_cell(block, out, info, i, bench.cell(array, i)) {
-            Ok(()) => {}
-            Err(failed) => return Err(failed),
-        }
+        put_cell(block, out, info, i, bench.cell(array, i))?;
     }
     Ok(())
 }
@@ -219,10 +209,7 @@ fn put_arrays<K: Sink>(
         (at block.old (K.seen out.old)) (at block.new (K.seen out.new)) result }
 {
     for (array, info) in infos.iter().enumerate() {
-        match put_cells(block, out, info, bench, array as u32) {
-            Ok(()) => {}
-            Err(failed) => return Err(failed),
-        }
+        put_cells(block, out, info, bench, array as u32)?;
     }
     Ok(())
 }
@@ -254,7 +241,7 @@ fn put_report<K: Sink>(
     requires few { length infos.now ≤ 16 }
     requires declared { AreDeclared bench.now.program infos.now }
     requires cells { HasCells infos.now bench.now.cells }
-    ensures { Puts (run_text labels.now infos.now (rows count (length labels.now) packets.now) bench.now.cells count)
+    ensures { Puts (table_text labels.now infos.now count packets.now bench.now.cells)
         (at block.old (K.seen out.old)) (at block.new (K.seen out.new)) result }
 {
     put_packets(block, out, count, labels, packets)?;
@@ -262,9 +249,9 @@ fn put_report<K: Sink>(
     put_done(block, out, count)
 }
 
-/// Writes the report of a run: the packets, which stand one after another in one list of words, each of their
-/// fields behind its label, the cells that differ from their start values, and the number of arrivals. It goes out in blocks, and takes no
-/// memory.
+/// Writes the report of a run: the packets, which stand one after another in one list of words, each of
+/// their fields behind its label, the cells that differ from their start values, and the number of
+/// arrivals. It goes out in blocks, and takes no memory.
 pub(crate) fn write_report<K: Sink>(
     block: Block,
     out: &mut K,
@@ -279,10 +266,12 @@ pub(crate) fn write_report<K: Sink>(
     requires few { length infos.now ≤ 16 }
     requires declared { AreDeclared bench.now.program infos.now }
     requires cells { HasCells infos.now bench.now.cells }
-    ensures ok { OnOk result (Grew (run_text labels.now infos.now (rows count (length labels.now) packets.now)
-        bench.now.cells count) (K.seen out.old) (K.seen out.new)) }
-    ensures err { OnErr result (Stopped (run_text labels.now infos.now (rows count (length labels.now) packets.now)
-        bench.now.cells count) (K.seen out.old) (K.seen out.new)) }
+    ensures ok { OnOk result
+        (Grew (table_text labels.now infos.now count packets.now bench.now.cells)
+        (K.seen out.old) (K.seen out.new)) }
+    ensures err { OnErr result
+        (Stopped (table_text labels.now infos.now count packets.now bench.now.cells)
+        (K.seen out.old) (K.seen out.new)) }
 {
     let mut block = block;
     put_report(&mut block, out, count, labels, packets, infos, bench)?;

@@ -28,8 +28,10 @@ pub(crate) struct FinalState<'a> {
 fn run_packet(bench: &mut Bench<'_>, packets: &mut [i32], start: usize, width: usize)
     requires { start + width ≤ length packets.old }
     ensures packet { packets.new ≡ take start packets.old
-        ++ ((executed bench.old (take width (drop start packets.old))).store.fields ++ drop (start + width) packets.old) }
-    ensures wide { length (executed bench.old (take width (drop start packets.old))).store.fields ≡ width }
+        ++ ((executed bench.old (take width (drop start packets.old))).store.fields
+        ++ drop (start + width) packets.old) }
+    ensures wide { length (executed bench.old (take width (drop start packets.old))).store.fields
+        ≡ width }
     ensures cells { bench.new ≡ record {
       program = bench.old.program;
       cells = (executed bench.old (take width (drop start packets.old))).store.cells;
@@ -41,7 +43,8 @@ fn run_packet(bench: &mut Bench<'_>, packets: &mut [i32], start: usize, width: u
 /// Runs the transaction on one packet after another, in arrival order, each in its place.
 fn run_packets(bench: &mut Bench<'_>, packets: &mut [i32], count: u32, width: usize)
     requires { length packets.old ≡ count * width }
-    ensures packets { packets.new ≡ flat_map (λ p. p) (run_bench bench.old (rows count width packets.old)).packets }
+    ensures packets { packets.new
+        ≡ flat_map (λ p. p) (run_bench bench.old (rows count width packets.old)).packets }
     ensures cells { bench.new ≡ record {
       program = bench.old.program;
       cells = (run_bench bench.old (rows count width packets.old)).cells;

@@ -41,7 +41,8 @@ pub fn switch_top<S: Store, K: Sink, F: Fabric>(
     ensures refused { ComesWhere (IsRefused (texts words.now)) result Status.Words }
     ensures untaken { request words.now ≡ None → (store.new ≡ store.old) × (out.new ≡ out.old) }
 
-    // Each other answer has its cause, and the output gains the whole report, a front of it or nothing.
+    // Each other answer has its cause, and the output gains the whole report, a prefix
+    // of it or nothing.
     ensures because { Because words.now (S.seen store.old) (S.seen store.new) result }
     ensures out { Reports words.now (S.seen store.old) (K.seen out.old) (K.seen out.new) result }
 
@@ -72,7 +73,8 @@ fn run_words<S: Store, K: Sink>(
     store: &mut S,
     out: &mut K,
 ) -> Status
-    ensures laws { Laws words.now (S.seen store.old) (S.seen store.new) (K.seen out.old) (K.seen out.new) result }
+    ensures laws { Laws words.now (S.seen store.old) (S.seen store.new)
+        (K.seen out.old) (K.seen out.new) result }
     ensures untaken { request words.now ≡ None → (store.new ≡ store.old) × (out.new ≡ out.old) }
 {
     match asked(alloc, words) {
@@ -97,8 +99,8 @@ fn serve<S: Store, K: Sink>(
     store: &mut S,
     out: &mut K,
 ) -> Status
-    ensures { Serves (request_with mode program.now capture.now) (S.seen store.old) (S.seen store.new)
-        (K.seen out.old) (K.seen out.new) result }
+    ensures { Serves (request_with mode program.now capture.now)
+        (S.seen store.old) (S.seen store.new) (K.seen out.old) (K.seen out.new) result }
 {
     let checked = match read_source(alloc, store, program) {
         Ok(checked) => checked,

@@ -78,15 +78,12 @@ pub(crate) fn write_all<K: Sink>(out: &mut K, bytes: &[u8]) -> Result<(), Failed
 {
     let mut done = 0;
     while done < bytes.len() {
-        match write_more(out, &bytes[done..]) {
-            Ok(count) => done += count,
-            Err(failed) => return Err(failed),
-        }
+        done += write_more(out, &bytes[done..])?;
     }
     Ok(())
 }
 
-// Writes a front of the bytes, not longer than a piece, and says how many were taken.
+// Writes a prefix of the bytes, not longer than a piece, and says how many were taken.
 fn write_more<K: Sink>(out: &mut K, bytes: &[u8]) -> Result<usize, Failed>
     ensures within { IfOk result (λ n. n ≤ length bytes.now) }
     ensures some { IfOk result (λ n. 0 < length bytes.now → 0 < n) }

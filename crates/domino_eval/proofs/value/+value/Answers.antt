@@ -9,6 +9,7 @@ use Rattle.mp5_words.specs.Cells.{touching}
 use Rattle.domino_check.specs.NumberedMeaning.{indexing, numbered_value, numbered_arrays}
 use Rattle.domino_check.proofs.MeaningLemmas.{value-Hash, arrays-Hash}
 use Rattle.domino_eval.specs.Parts.{store}
+use Rattle.domino_eval.specs.Places.{marks}
 use Rattle.domino_eval.proofs.EvalLemmas.{word_map, first_words_next, hash_firsts, touch_next}
 use Rattle.domino_eval.proofs.value.+value.Goals as goal
 
@@ -18,13 +19,15 @@ hash_value-loop-place-preserved t c =
     let st : Store = store c.args.fields.now c.args.cells.now in
     let words : List ℤ = map (λ (a : Store → ℤ). a st) (map f c.args.args.now) in
     let fits : FitsSigned w32 c.operand-word.result = search rules in
-    let within : c.loop-place.place < length words = omega (arith, length-map (map f c.args.args.now) (λ (a : Store → ℤ). a st), length-map c.args.args.now f, c.loop-place-test.true) in (
-      first_words_next words c.loop-place.place _ _ _ within c.put.ensures c.loop-place.invariant.0
-          (to_z-of_z w32 c.operand-word.result fits ∙ c.operand-word.ensures.value ∙ word_map f c.args.args.now c.loop-place.place c.index-args-place.result st c.loop-place-test.true c.index-args-place.is),
-      c.operand-word.ensures.touched
-          ∙ ap (touching (numbered_arrays c.index-args-place.result)) c.loop-place.invariant.1
-          ∙ touch_next c.args.args.now c.loop-place.place c.index-args-place.result c.args.touched.now c.loop-place-test.true c.index-args-place.is,
-    )
+    let within : c.loop-place.place < length words = omega (arith, length-map (map f c.args.args.now) (λ (a : Store → ℤ). a st), length-map c.args.args.now f, c.loop-place-test.true) in
+    record {
+      words = first_words_next words c.loop-place.place _ _ _ within c.put.ensures c.loop-place.invariant.words
+          (to_z-of_z w32 c.operand-word.result fits ∙ c.operand-word.ensures.value ∙ word_map f c.args.args.now c.loop-place.place c.index-args-place.result st c.loop-place-test.true c.index-args-place.is);
+      touched = c.operand-word.ensures.touched
+          ∙ ap (touching (numbered_arrays c.index-args-place.result)) c.loop-place.invariant.touched
+          ∙ touch_next c.args.args.now c.loop-place.place c.index-args-place.result (marks c.args.places.now) c.loop-place-test.true c.index-args-place.is;
+      kept = c.operand-word.ensures.kept;
+    }
 
 pub hash_value-returns-clause-value : goal.hash_value-returns-clause-value
 hash_value-returns-clause-value t c =
@@ -39,12 +42,12 @@ hash_value-returns-clause-value t c =
     to_z-of_z w32 c.hash.result fits
     ∙ c.hash.ensures
     ∙ (λ i. hash c.args.kind (to_z-of_z w32 _ fits-a i) (to_z-of_z w32 _ fits-b i) (to_z-of_z w32 _ fits-c i))
-    ∙ hash_firsts c.args.kind words c.loop-place.place c.loop-place.words c.loop-place.invariant.0 past
+    ∙ hash_firsts c.args.kind words c.loop-place.place c.loop-place.words c.loop-place.invariant.words past
 
 pub hash_value-returns-clause-touched : goal.hash_value-returns-clause-touched
 hash_value-returns-clause-touched t c =
-    c.loop-place.invariant.1
-    ∙ ap (λ l. touching (flat_map (λ a. a) (map numbered_arrays l)) c.args.touched.now) (take_all c.loop-place.place c.args.args.now c.loop-place-test.false)
+    c.loop-place.invariant.touched
+    ∙ ap (λ l. touching (flat_map (λ a. a) (map numbered_arrays l)) (marks c.args.places.now)) (take_all c.loop-place.place c.args.args.now c.loop-place-test.false)
 
 pub value-returns-in-Hash-clause-value : goal.value-returns-in-Hash-clause-value
 value-returns-in-Hash-clause-value t c =
@@ -57,4 +60,4 @@ pub value-returns-in-Hash-clause-touched : goal.value-returns-in-Hash-clause-tou
 value-returns-in-Hash-clause-touched t c =
     let is : c.args.expr.now ≡ e.Hash c.in-Hash.kind c.as_slice.result.now = c.in-Hash.is ∙ ap (e.Hash c.in-Hash.kind) (sym c.as_slice.ensures) in
     c.hash_value.ensures.touched
-    ∙ ap (λ l. touching l c.args.touched.now) (sym (ap numbered_arrays is ∙ arrays-Hash c.in-Hash.kind c.as_slice.result.now))
+    ∙ ap (λ l. touching l (marks c.args.places.now)) (sym (ap numbered_arrays is ∙ arrays-Hash c.in-Hash.kind c.as_slice.result.now))

@@ -1,19 +1,21 @@
 use Rattle.std.proofs.Common.{◌∙◌, get_or, pos, arith, rules, w32, FitsSigned}
 use Rattle.std.proofs.lemmas.Int.{to_z-of_z}
+use Rattle.std.proofs.lemmas.Result.{err_from_is_err_and}
 use Rattle.switch_runner.proofs.ReportLemmas.{fields_from}
 use Rattle.switch_runner.proofs.WritingLemmas.{goes_on, goes_broken}
 use Rattle.switch_runner.proofs.report.put_fields.Goals as goal
 
-pub returns-in-Err : goal.returns-in-Err
-returns-in-Err g c =
+pub returns-in_err-put_field : goal.returns-in_err-put_field
+returns-in_err-put_field g c =
     let fits : FitsSigned w32 (get_or c.args.values.now c.loop-i.i (pos 0)) = search rules in
-    goes_broken _ _ _ _ _ _ _
+    let p = err_from_is_err_and c.from_residual.result c.from_residual.ensures.1 in
+    rw p.1 (goes_broken _ _ _ _ _ _ _
     (fields_from c.args.labels.now c.args.values.now c.loop-i.i _ _ _ (pos 0) c.loop-i-test.true (omega (arith, c.requires, c.loop-i-test.true)) (c.as_slice.ensures ∙ c.index-labels-i.is) (to_z-of_z w32 _ fits))
-    c.loop-i.invariant c.in-Err.ensures
+    c.loop-i.invariant c.in_err-put_field.ensures)
 
 pub loop-i-preserved : goal.loop-i-preserved
 loop-i-preserved g c =
     let fits : FitsSigned w32 (get_or c.args.values.now c.loop-i.i (pos 0)) = search rules in
     goes_on _ _ _ _ _ _ _
     (fields_from c.args.labels.now c.args.values.now c.loop-i.i _ _ _ (pos 0) c.loop-i-test.true (omega (arith, c.requires, c.loop-i-test.true)) (c.as_slice.ensures ∙ c.index-labels-i.is) (to_z-of_z w32 _ fits))
-    c.loop-i.invariant c.in-Ok.ensures
+    c.loop-i.invariant c.in_ok-put_field.ensures
