@@ -1,6 +1,6 @@
 //! The one call of the pass.
 
-ghost use Rattle.std.specs.Prelude.{◌≡◌, ◌≤◌, length, IfOk};
+ghost use Rattle.std.specs.Prelude.{◌≡◌, ◌<◌, ◌^◌, length, IfOk};
 ghost use Rattle.domino_tree.specs.Count.{count_of};
 ghost use Rattle.domino_check.specs.Numbering.{numbered_body};
 ghost use Rattle.branch_removal.specs.GuardedLines.{body_lines};
@@ -16,9 +16,9 @@ use sqlite_items::Items;
 use std::alloc::Global;
 
 /// The guarded code of a program: the same fields and arrays, and its body as lines under guards. It is refused
-/// only where memory runs out.
+/// only where memory runs out. The program's count fits 32 bits, as that of each program does which is read.
 pub fn remove_branches(alloc: Global, checked: &Checked) -> Result<GuardCode, NoMemory>
-    requires { count_of checked.now ≤ 4294967295 }
+    requires { count_of checked.now < 2 ^ 32 }
     ensures fields { IfOk result (λ c. c.fields ≡ length checked.now.packet.fields) }
     ensures arrays { IfOk result (λ c. c.arrays ≡ shapes_of checked.now) }
     ensures lines { IfOk result (λ c. c.lines ≡ body_lines (numbered_body checked.now)) }
