@@ -1,0 +1,2 @@
+pub mod GuardValid
+pub mod GuardMeaning
