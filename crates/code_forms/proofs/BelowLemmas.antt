@@ -20,16 +20,16 @@ module _ (fields arrays : ℕ) where
   fits-Cell : (a : ℕ) → fits fields arrays (g.Cell a) ≡ nat_lt a arrays
   fits-Cell a = ap (fits fields arrays) (sym (g.rolls-Cell a)) ∙ fold-roll-GuardExpr Bool (fitting fields arrays) (G.GuardExpr-F.Cell a)
 
-  fits-One : (op : Op1) (a : GuardExpr) → fits fields arrays (g.One op a) ≡ fits fields arrays a
+  pub fits-One : (op : Op1) (a : GuardExpr) → fits fields arrays (g.One op a) ≡ fits fields arrays a
   fits-One op a = ap (fits fields arrays) (sym (g.rolls-One op a)) ∙ fold-roll-GuardExpr Bool (fitting fields arrays) (G.GuardExpr-F.One op a)
 
-  fits-Two : (op : Op2) (a b : GuardExpr) → fits fields arrays (g.Two op a b) ≡ (fits fields arrays a && fits fields arrays b)
+  pub fits-Two : (op : Op2) (a b : GuardExpr) → fits fields arrays (g.Two op a b) ≡ (fits fields arrays a && fits fields arrays b)
   fits-Two op a b = ap (fits fields arrays) (sym (g.rolls-Two op a b)) ∙ fold-roll-GuardExpr Bool (fitting fields arrays) (G.GuardExpr-F.Two op a b)
 
-  fits-Pick : (c a b : GuardExpr) → fits fields arrays (g.Pick c a b) ≡ (fits fields arrays c && (fits fields arrays a && fits fields arrays b))
+  pub fits-Pick : (c a b : GuardExpr) → fits fields arrays (g.Pick c a b) ≡ (fits fields arrays c && (fits fields arrays a && fits fields arrays b))
   fits-Pick c a b = ap (fits fields arrays) (sym (g.rolls-Pick c a b)) ∙ fold-roll-GuardExpr Bool (fitting fields arrays) (G.GuardExpr-F.Pick c a b)
 
-  fits-Hash : (kind : HashKind) (args : List GuardExpr) → fits fields arrays (g.Hash kind args) ≡ ((length (map (fits fields arrays) args) == arity kind) && list_all (λ (a : Bool). a) (map (fits fields arrays) args))
+  pub fits-Hash : (kind : HashKind) (args : List GuardExpr) → fits fields arrays (g.Hash kind args) ≡ ((length (map (fits fields arrays) args) == arity kind) && list_all (λ (a : Bool). a) (map (fits fields arrays) args))
   fits-Hash kind args = ap (fits fields arrays) (sym (g.rolls-Hash kind args)) ∙ fold-roll-GuardExpr Bool (fitting fields arrays) (G.GuardExpr-F.Hash kind args)
 
   abbrev Below : GuardExpr → Type 0
