@@ -1,37 +1,17 @@
 -- The arrays of an expression that fits are there.
-use Rattle.std.proofs.Common.{◌≡◌, ℕ, ◌<◌, ◌==◌, Bool, true, ◌&&◌, nat_lt, List, [], ◌∷◌, length, map, flat_map, sym, ap, subst, ◌∙◌, arith}
+use Rattle.std.proofs.Common.{◌≡◌, ℕ, ◌<◌, ◌==◌, Bool, true, nat_lt, List, [], ◌∷◌, length, map, flat_map, sym, subst, ◌∙◌, arith}
 use Rattle.std.specs.List.{list_all}
 use Rattle.std.proofs.lemmas.Bool.Decides.{nat_tests}
-use Rattle.mp5_words.specs.declared.op.Op1.{Op1}
-use Rattle.mp5_words.specs.declared.op.Op2.{Op2}
-use Rattle.mp5_words.specs.declared.hashing.HashKind.{HashKind}
 use Rattle.code_forms.proofs.EachLemmas.{Each, each_join}
 use Rattle.mp5_words.specs.Words.{arity}
-use Rattle.code_forms.specs.declared.guard.GuardExpr.{GuardExpr, fold-roll-GuardExpr}
-use Rattle.code_forms.specs.declared.guard.GuardExpr.TheOpen as G
-use Rattle.code_forms.specs.declared.guard.GuardExpr.TheVariants as g
+use Rattle.code_forms.specs.declared.guard.GuardExpr.{GuardExpr}
 use Rattle.code_forms.specs.declared.guard.GuardLine.{GuardLine}
 use Rattle.code_forms.specs.declared.guard.GuardLine.TheVariants as line
-use Rattle.code_forms.specs.GuardValid.{fitting, fits, arrays_in, line_arrays, line_fits}
+use Rattle.code_forms.specs.GuardValid.{fits, arrays_in, line_arrays, line_fits}
 use Rattle.code_forms.proofs.GuardTrees
 use Rattle.code_forms.proofs.ValidLemmas.{and_front, and_back}
 
 module _ (fields arrays : ℕ) where
-  fits-Cell : (a : ℕ) → fits fields arrays (g.Cell a) ≡ nat_lt a arrays
-  fits-Cell a = ap (fits fields arrays) (sym (g.rolls-Cell a)) ∙ fold-roll-GuardExpr Bool (fitting fields arrays) (G.GuardExpr-F.Cell a)
-
-  pub fits-One : (op : Op1) (a : GuardExpr) → fits fields arrays (g.One op a) ≡ fits fields arrays a
-  fits-One op a = ap (fits fields arrays) (sym (g.rolls-One op a)) ∙ fold-roll-GuardExpr Bool (fitting fields arrays) (G.GuardExpr-F.One op a)
-
-  pub fits-Two : (op : Op2) (a b : GuardExpr) → fits fields arrays (g.Two op a b) ≡ (fits fields arrays a && fits fields arrays b)
-  fits-Two op a b = ap (fits fields arrays) (sym (g.rolls-Two op a b)) ∙ fold-roll-GuardExpr Bool (fitting fields arrays) (G.GuardExpr-F.Two op a b)
-
-  pub fits-Pick : (c a b : GuardExpr) → fits fields arrays (g.Pick c a b) ≡ (fits fields arrays c && (fits fields arrays a && fits fields arrays b))
-  fits-Pick c a b = ap (fits fields arrays) (sym (g.rolls-Pick c a b)) ∙ fold-roll-GuardExpr Bool (fitting fields arrays) (G.GuardExpr-F.Pick c a b)
-
-  pub fits-Hash : (kind : HashKind) (args : List GuardExpr) → fits fields arrays (g.Hash kind args) ≡ ((length (map (fits fields arrays) args) == arity kind) && list_all (λ (a : Bool). a) (map (fits fields arrays) args))
-  fits-Hash kind args = ap (fits fields arrays) (sym (g.rolls-Hash kind args)) ∙ fold-roll-GuardExpr Bool (fitting fields arrays) (G.GuardExpr-F.Hash kind args)
-
   abbrev Below : GuardExpr → Type 0
   Below x = fits fields arrays x ≡ true → Each (λ a. a < arrays) (arrays_in x)
 
@@ -46,17 +26,17 @@ module _ (fields arrays : ℕ) where
   arrays_below = GuardTrees.guard_induct Below
       (λ n e. subst (Each (λ a. a < arrays)) (sym (GuardTrees.arrays-Number n)) tt)
       (λ f e. subst (Each (λ a. a < arrays)) (sym (GuardTrees.arrays-Field f)) tt)
-      (λ a e. subst (Each (λ a. a < arrays)) (sym (GuardTrees.arrays-Cell a)) (array_below a (sym (fits-Cell a) ∙ e), tt))
-      (λ op a held e. subst (Each (λ a. a < arrays)) (sym (GuardTrees.arrays-One op a)) (held (sym (fits-One op a) ∙ e)))
+      (λ a e. subst (Each (λ a. a < arrays)) (sym (GuardTrees.arrays-Cell a)) (array_below a (sym (GuardTrees.fits-Cell fields arrays a) ∙ e), tt))
+      (λ op a held e. subst (Each (λ a. a < arrays)) (sym (GuardTrees.arrays-One op a)) (held (sym (GuardTrees.fits-One fields arrays op a) ∙ e)))
       (λ op a b one two e.
-      let all = sym (fits-Two op a b) ∙ e in
+      let all = sym (GuardTrees.fits-Two fields arrays op a b) ∙ e in
       subst (Each (λ a. a < arrays)) (sym (GuardTrees.arrays-Two op a b)) (each_join (λ a. a < arrays) (arrays_in a) (arrays_in b) (one (and_front (fits fields arrays a) _ all)) (two (and_back (fits fields arrays a) _ all))))
       (λ c a b none one two e.
-      let all = sym (fits-Pick c a b) ∙ e in
+      let all = sym (GuardTrees.fits-Pick fields arrays c a b) ∙ e in
       let both = and_back (fits fields arrays c) _ all in
       subst (Each (λ a. a < arrays)) (sym (GuardTrees.arrays-Pick c a b)) (each_join (λ a. a < arrays) (arrays_in c) _ (none (and_front (fits fields arrays c) _ all)) (each_join (λ a. a < arrays) (arrays_in a) (arrays_in b) (one (and_front (fits fields arrays a) _ both)) (two (and_back (fits fields arrays a) _ both)))))
       (λ kind args held e.
-      let all = sym (fits-Hash kind args) ∙ e in
+      let all = sym (GuardTrees.fits-Hash fields arrays kind args) ∙ e in
       subst (Each (λ a. a < arrays)) (sym (GuardTrees.arrays-Hash kind args)) (args_below args held (and_back (length (map (fits fields arrays) args) == arity kind) _ all)))
 
   pub line_below : (l : GuardLine) → line_fits fields arrays l ≡ true → Each (λ a. a < arrays) (line_arrays l)

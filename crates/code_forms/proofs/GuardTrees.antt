@@ -1,5 +1,7 @@
 -- Induction over guarded expressions, and what is said of them at each form.
-use Rattle.std.proofs.Common.{◌≡◌, ℕ, ℤ, List, [], ◌∷◌, ◌++◌, map, flat_map, sym, ap, subst, ◌∙◌}
+use Rattle.std.proofs.Common.{◌≡◌, ℕ, ◌+◌, ◌==◌, ℤ, Bool, true, false, ◌&&◌, ◌||◌, nat_lt, List, [], ◌∷◌, ◌++◌, length, map, flat_map, sum, sym, ap, subst, ◌∙◌}
+use Rattle.std.specs.List.{list_any, list_all}
+use Rattle.mp5_words.specs.Words.{arity}
 use Rattle.mp5_words.specs.declared.op.Op1.{Op1}
 use Rattle.mp5_words.specs.declared.op.Op2.{Op2}
 use Rattle.mp5_words.specs.declared.hashing.HashKind.{HashKind}
@@ -7,7 +9,7 @@ use Rattle.code_forms.proofs.EachLemmas.{Each, each_part}
 use Rattle.code_forms.specs.declared.guard.GuardExpr.{GuardExpr, ind-GuardExpr, roll-GuardExpr, map-GuardExpr, fold-roll-GuardExpr}
 use Rattle.code_forms.specs.declared.guard.GuardExpr.TheOpen as G
 use Rattle.code_forms.specs.declared.guard.GuardExpr.TheVariants as g
-use Rattle.code_forms.specs.GuardValid.{mentioning, arrays_in}
+use Rattle.code_forms.specs.GuardValid.{mentioning, arrays_in, mentioning_field, mentions, counting, operators_in, fitting, fits}
 use Rattle.mp5_words.specs.Domain.{Ops}
 use Rattle.mp5_words.specs.Copies.{Seen, at, hash_of}
 use Rattle.code_forms.specs.GuardMeaning.{guard_meaning, guard_value}
@@ -80,3 +82,74 @@ arrays-Pick c a b = ap arrays_in (sym (g.rolls-Pick c a b)) ∙ fold-roll-GuardE
 
 pub arrays-Hash : (kind : HashKind) (args : List GuardExpr) → arrays_in (g.Hash kind args) ≡ flat_map (λ (a : List ℕ). a) (map arrays_in args)
 arrays-Hash kind args = ap arrays_in (sym (g.rolls-Hash kind args)) ∙ fold-roll-GuardExpr (List ℕ) mentioning (G.GuardExpr-F.Hash kind args)
+
+-- ---- whether a field stands in it
+
+module _ (field : ℕ) where
+  pub mentions-Number : (n : ℤ) → mentions field (g.Number n) ≡ false
+  mentions-Number n = ap (mentions field) (sym (g.rolls-Number n)) ∙ fold-roll-GuardExpr Bool (mentioning_field field) (G.GuardExpr-F.Number n)
+
+  pub mentions-Field : (f : ℕ) → mentions field (g.Field f) ≡ (f == field)
+  mentions-Field f = ap (mentions field) (sym (g.rolls-Field f)) ∙ fold-roll-GuardExpr Bool (mentioning_field field) (G.GuardExpr-F.Field f)
+
+  pub mentions-Cell : (a : ℕ) → mentions field (g.Cell a) ≡ false
+  mentions-Cell a = ap (mentions field) (sym (g.rolls-Cell a)) ∙ fold-roll-GuardExpr Bool (mentioning_field field) (G.GuardExpr-F.Cell a)
+
+  pub mentions-One : (op : Op1) (a : GuardExpr) → mentions field (g.One op a) ≡ mentions field a
+  mentions-One op a = ap (mentions field) (sym (g.rolls-One op a)) ∙ fold-roll-GuardExpr Bool (mentioning_field field) (G.GuardExpr-F.One op a)
+
+  pub mentions-Two : (op : Op2) (a b : GuardExpr) → mentions field (g.Two op a b) ≡ (mentions field a || mentions field b)
+  mentions-Two op a b = ap (mentions field) (sym (g.rolls-Two op a b)) ∙ fold-roll-GuardExpr Bool (mentioning_field field) (G.GuardExpr-F.Two op a b)
+
+  pub mentions-Pick : (c a b : GuardExpr) → mentions field (g.Pick c a b) ≡ (mentions field c || (mentions field a || mentions field b))
+  mentions-Pick c a b = ap (mentions field) (sym (g.rolls-Pick c a b)) ∙ fold-roll-GuardExpr Bool (mentioning_field field) (G.GuardExpr-F.Pick c a b)
+
+  pub mentions-Hash : (kind : HashKind) (args : List GuardExpr) → mentions field (g.Hash kind args) ≡ list_any (λ (a : Bool). a) (map (mentions field) args)
+  mentions-Hash kind args = ap (mentions field) (sym (g.rolls-Hash kind args)) ∙ fold-roll-GuardExpr Bool (mentioning_field field) (G.GuardExpr-F.Hash kind args)
+
+-- ---- whether it is well formed
+
+module _ (fields arrays : ℕ) where
+  pub fits-Number : (n : ℤ) → fits fields arrays (g.Number n) ≡ true
+  fits-Number n = ap (fits fields arrays) (sym (g.rolls-Number n)) ∙ fold-roll-GuardExpr Bool (fitting fields arrays) (G.GuardExpr-F.Number n)
+
+  pub fits-Field : (f : ℕ) → fits fields arrays (g.Field f) ≡ nat_lt f fields
+  fits-Field f = ap (fits fields arrays) (sym (g.rolls-Field f)) ∙ fold-roll-GuardExpr Bool (fitting fields arrays) (G.GuardExpr-F.Field f)
+
+  pub fits-Cell : (a : ℕ) → fits fields arrays (g.Cell a) ≡ nat_lt a arrays
+  fits-Cell a = ap (fits fields arrays) (sym (g.rolls-Cell a)) ∙ fold-roll-GuardExpr Bool (fitting fields arrays) (G.GuardExpr-F.Cell a)
+
+  pub fits-One : (op : Op1) (a : GuardExpr) → fits fields arrays (g.One op a) ≡ fits fields arrays a
+  fits-One op a = ap (fits fields arrays) (sym (g.rolls-One op a)) ∙ fold-roll-GuardExpr Bool (fitting fields arrays) (G.GuardExpr-F.One op a)
+
+  pub fits-Two : (op : Op2) (a b : GuardExpr) → fits fields arrays (g.Two op a b) ≡ (fits fields arrays a && fits fields arrays b)
+  fits-Two op a b = ap (fits fields arrays) (sym (g.rolls-Two op a b)) ∙ fold-roll-GuardExpr Bool (fitting fields arrays) (G.GuardExpr-F.Two op a b)
+
+  pub fits-Pick : (c a b : GuardExpr) → fits fields arrays (g.Pick c a b) ≡ (fits fields arrays c && (fits fields arrays a && fits fields arrays b))
+  fits-Pick c a b = ap (fits fields arrays) (sym (g.rolls-Pick c a b)) ∙ fold-roll-GuardExpr Bool (fitting fields arrays) (G.GuardExpr-F.Pick c a b)
+
+  pub fits-Hash : (kind : HashKind) (args : List GuardExpr) → fits fields arrays (g.Hash kind args) ≡ ((length (map (fits fields arrays) args) == arity kind) && list_all (λ (a : Bool). a) (map (fits fields arrays) args))
+  fits-Hash kind args = ap (fits fields arrays) (sym (g.rolls-Hash kind args)) ∙ fold-roll-GuardExpr Bool (fitting fields arrays) (G.GuardExpr-F.Hash kind args)
+
+-- ---- how much it counts
+
+pub operators-Number : (n : ℤ) → operators_in (g.Number n) ≡ 0
+operators-Number n = ap operators_in (sym (g.rolls-Number n)) ∙ fold-roll-GuardExpr ℕ counting (G.GuardExpr-F.Number n)
+
+pub operators-Field : (f : ℕ) → operators_in (g.Field f) ≡ 0
+operators-Field f = ap operators_in (sym (g.rolls-Field f)) ∙ fold-roll-GuardExpr ℕ counting (G.GuardExpr-F.Field f)
+
+pub operators-Cell : (a : ℕ) → operators_in (g.Cell a) ≡ 0
+operators-Cell a = ap operators_in (sym (g.rolls-Cell a)) ∙ fold-roll-GuardExpr ℕ counting (G.GuardExpr-F.Cell a)
+
+pub operators-One : (op : Op1) (a : GuardExpr) → operators_in (g.One op a) ≡ 1 + operators_in a
+operators-One op a = ap operators_in (sym (g.rolls-One op a)) ∙ fold-roll-GuardExpr ℕ counting (G.GuardExpr-F.One op a)
+
+pub operators-Two : (op : Op2) (a b : GuardExpr) → operators_in (g.Two op a b) ≡ 1 + (operators_in a + operators_in b)
+operators-Two op a b = ap operators_in (sym (g.rolls-Two op a b)) ∙ fold-roll-GuardExpr ℕ counting (G.GuardExpr-F.Two op a b)
+
+pub operators-Pick : (c a b : GuardExpr) → operators_in (g.Pick c a b) ≡ 1 + (operators_in c + (operators_in a + operators_in b))
+operators-Pick c a b = ap operators_in (sym (g.rolls-Pick c a b)) ∙ fold-roll-GuardExpr ℕ counting (G.GuardExpr-F.Pick c a b)
+
+pub operators-Hash : (kind : HashKind) (args : List GuardExpr) → operators_in (g.Hash kind args) ≡ 1 + sum (map operators_in args)
+operators-Hash kind args = ap operators_in (sym (g.rolls-Hash kind args)) ∙ fold-roll-GuardExpr ℕ counting (G.GuardExpr-F.Hash kind args)

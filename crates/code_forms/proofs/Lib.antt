@@ -4,7 +4,6 @@ pub mod ValueLemmas
 pub mod ValidLemmas
 pub mod LoadLemmas
 pub mod BelowLemmas
-pub mod CountLemmas
 pub mod FitLemmas
 pub mod FlatLemmas
 pub mod OrderLemmas

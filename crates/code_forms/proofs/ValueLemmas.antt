@@ -2,14 +2,9 @@
 use Rattle.std.proofs.Common.{◌≡◌, ℕ, ◌==◌, pos, Bool, true, false, ◌||◌, List, [], ◌∷◌, ◌++◌, map, flat_map, slice_set, refl, sym, ap, subst, ◌∙◌, arith, get_or-set_other}
 use Rattle.std.specs.List.{list_any}
 use Rattle.std.proofs.lemmas.Bool.Decides.{eqb_tells}
-use Rattle.mp5_words.specs.declared.op.Op1.{Op1}
-use Rattle.mp5_words.specs.declared.op.Op2.{Op2}
-use Rattle.mp5_words.specs.declared.hashing.HashKind.{HashKind}
 use Rattle.code_forms.proofs.EachLemmas.{Each, each_front, each_back}
-use Rattle.code_forms.specs.declared.guard.GuardExpr.{GuardExpr, fold-roll-GuardExpr}
-use Rattle.code_forms.specs.declared.guard.GuardExpr.TheOpen as G
-use Rattle.code_forms.specs.declared.guard.GuardExpr.TheVariants as g
-use Rattle.code_forms.specs.GuardValid.{arrays_in, mentioning_field, mentions}
+use Rattle.code_forms.specs.declared.guard.GuardExpr.{GuardExpr}
+use Rattle.code_forms.specs.GuardValid.{arrays_in, mentions}
 use Rattle.mp5_words.specs.Domain.{Ops}
 use Rattle.mp5_words.specs.Copies.{Seen, at, hash_of, on_fields}
 use Rattle.code_forms.specs.GuardMeaning.{guard_value}
@@ -62,23 +57,6 @@ pub or_back : (a b : Bool) → (a || b) ≡ false → b ≡ false
 or_back true b e = absurd cc
 or_back false b e = e
 
--- ---- whether a field stands in it
-
-mentions-Field : (f k : ℕ) → mentions f (g.Field k) ≡ (k == f)
-mentions-Field f k = ap (mentions f) (sym (g.rolls-Field k)) ∙ fold-roll-GuardExpr Bool (mentioning_field f) (G.GuardExpr-F.Field k)
-
-mentions-One : (f : ℕ) (op : Op1) (a : GuardExpr) → mentions f (g.One op a) ≡ mentions f a
-mentions-One f op a = ap (mentions f) (sym (g.rolls-One op a)) ∙ fold-roll-GuardExpr Bool (mentioning_field f) (G.GuardExpr-F.One op a)
-
-mentions-Two : (f : ℕ) (op : Op2) (a b : GuardExpr) → mentions f (g.Two op a b) ≡ (mentions f a || mentions f b)
-mentions-Two f op a b = ap (mentions f) (sym (g.rolls-Two op a b)) ∙ fold-roll-GuardExpr Bool (mentioning_field f) (G.GuardExpr-F.Two op a b)
-
-mentions-Pick : (f : ℕ) (c a b : GuardExpr) → mentions f (g.Pick c a b) ≡ (mentions f c || (mentions f a || mentions f b))
-mentions-Pick f c a b = ap (mentions f) (sym (g.rolls-Pick c a b)) ∙ fold-roll-GuardExpr Bool (mentioning_field f) (G.GuardExpr-F.Pick c a b)
-
-mentions-Hash : (f : ℕ) (kind : HashKind) (args : List GuardExpr) → mentions f (g.Hash kind args) ≡ list_any (λ (a : Bool). a) (map (mentions f) args)
-mentions-Hash f kind args = ap (mentions f) (sym (g.rolls-Hash kind args)) ∙ fold-roll-GuardExpr Bool (mentioning_field f) (G.GuardExpr-F.Hash kind args)
-
 module _ (V : Type 0) (o : Ops V) (f : ℕ) (fields : List V) (z : V) where
   abbrev Unmoved : GuardExpr → Type 0
   Unmoved x = mentions f x ≡ false → guard_value V o x (on_fields V o (slice_set fields f z)) ≡ guard_value V o x (on_fields V o fields)
@@ -96,19 +74,19 @@ module _ (V : Type 0) (o : Ops V) (f : ℕ) (fields : List V) (z : V) where
   pub unmoved : (x : GuardExpr) → Unmoved x
   unmoved = GuardTrees.guard_induct Unmoved
       (λ n e. GuardTrees.value-Number V o n _ ∙ sym (GuardTrees.value-Number V o n _))
-      (λ k e. GuardTrees.value-Field V o k _ ∙ other_field k (sym (mentions-Field f k) ∙ e) ∙ sym (GuardTrees.value-Field V o k _))
+      (λ k e. GuardTrees.value-Field V o k _ ∙ other_field k (sym (GuardTrees.mentions-Field f k) ∙ e) ∙ sym (GuardTrees.value-Field V o k _))
       (λ a e. GuardTrees.value-Cell V o a _ ∙ sym (GuardTrees.value-Cell V o a _))
-      (λ op a held e. GuardTrees.value-One V o op a _ ∙ ap (o.one op) (held (sym (mentions-One f op a) ∙ e)) ∙ sym (GuardTrees.value-One V o op a _))
+      (λ op a held e. GuardTrees.value-One V o op a _ ∙ ap (o.one op) (held (sym (GuardTrees.mentions-One f op a) ∙ e)) ∙ sym (GuardTrees.value-One V o op a _))
       (λ op a b first second e.
-      let all = sym (mentions-Two f op a b) ∙ e in
+      let all = sym (GuardTrees.mentions-Two f op a b) ∙ e in
       let left = first (or_front (mentions f a) (mentions f b) all) in
       let right = second (or_back (mentions f a) (mentions f b) all) in
       GuardTrees.value-Two V o op a b _ ∙ (λ i. o.two op (left i) (right i)) ∙ sym (GuardTrees.value-Two V o op a b _))
       (λ c a b zeroth first second e.
-      let all = sym (mentions-Pick f c a b) ∙ e in
+      let all = sym (GuardTrees.mentions-Pick f c a b) ∙ e in
       let both = or_back (mentions f c) (mentions f a || mentions f b) all in
       let cond = zeroth (or_front (mentions f c) (mentions f a || mentions f b) all) in
       let left = first (or_front (mentions f a) (mentions f b) both) in
       let right = second (or_back (mentions f a) (mentions f b) both) in
       GuardTrees.value-Pick V o c a b _ ∙ (λ i. o.pick (cond i) (left i) (right i)) ∙ sym (GuardTrees.value-Pick V o c a b _))
-      (λ kind args held e. GuardTrees.value-Hash V o kind args _ ∙ ap (hash_of V o kind) (args_unmoved args held (sym (mentions-Hash f kind args) ∙ e)) ∙ sym (GuardTrees.value-Hash V o kind args _))
+      (λ kind args held e. GuardTrees.value-Hash V o kind args _ ∙ ap (hash_of V o kind) (args_unmoved args held (sym (GuardTrees.mentions-Hash f kind args) ∙ e)) ∙ sym (GuardTrees.value-Hash V o kind args _))

@@ -1,0 +1,15 @@
+pub mod Direct
+pub mod Trees
+pub mod GuardedLemmas
+pub mod LineSites
+pub mod LineFits
+pub mod LineStays
+pub mod LineCounts
+pub mod ShapeLemmas
+pub mod DirectLemmas
+pub mod Copies
+pub mod Stays
+pub mod Places
+pub mod Guards
+pub mod Keeps
+pub mod WholeLemmas

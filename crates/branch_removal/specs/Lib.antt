@@ -1,0 +1,3 @@
+pub mod GuardedLines
+pub mod Shapes
+pub mod Kept
