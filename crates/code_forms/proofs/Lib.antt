@@ -4,3 +4,6 @@ pub mod ValueLemmas
 pub mod ValidLemmas
 pub mod LoadLemmas
 pub mod BelowLemmas
+pub mod FitLemmas
+pub mod FlatLemmas
+pub mod OrderLemmas

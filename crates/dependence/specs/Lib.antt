@@ -1,0 +1,7 @@
+pub mod Reach
+pub mod Tables
+pub mod Classes
+pub mod Numbering
+pub mod Uses
+pub mod Paths
+pub mod Groups
