@@ -13,3 +13,5 @@ pub mod Places
 pub mod Guards
 pub mod Keeps
 pub mod WholeLemmas
+pub mod WalkLemmas
+pub mod FollowLemmas

@@ -1,3 +1,4 @@
 pub mod GuardedLines
 pub mod Shapes
 pub mod Kept
+pub mod Followed

@@ -1,11 +1,14 @@
 //! The one call of the pass.
 
-ghost use Rattle.std.specs.Prelude.{◌≡◌, ◌<◌, ◌^◌, length, IfOk};
+ghost use Rattle.std.specs.Prelude.{◌≡◌, ◌<◌, ◌^◌, ℕ, List, length, IfOk};
+ghost use Rattle.mp5_words.specs.Domain.{sources, marks, Mark};
 ghost use Rattle.domino_tree.specs.Count.{count_of};
 ghost use Rattle.domino_check.specs.Numbering.{numbered_body};
+ghost use Rattle.code_forms.specs.GuardMeaning.{length_at};
 ghost use Rattle.branch_removal.specs.GuardedLines.{body_lines};
 ghost use Rattle.branch_removal.specs.Shapes.{shapes_of};
 ghost use Rattle.branch_removal.specs.Kept.{KeepsMeaning};
+ghost use Rattle.branch_removal.specs.Followed.{Follows};
 
 use crate::lines::body_lines;
 use crate::shapes::shapes_of;
@@ -24,6 +27,10 @@ pub fn remove_branches(alloc: Global, checked: &Checked) -> Result<GuardCode, No
     ensures lines { IfOk result (λ c. c.lines ≡ body_lines (numbered_body checked.now)) }
     // For all fields and cells the lines give the execution's fields, cells and touched arrays.
     ensures keeps { IfOk result (λ c. KeepsMeaning checked.now c.arrays c.lines) }
+    // For every header they do what the walk over the source does: with the arrays behind each value, and with
+    // what the header alone tells of it.
+    ensures sources { IfOk result (λ c. Follows (List ℕ) sources checked.now c.arrays c.lines) }
+    ensures marks { IfOk result (λ c. Follows Mark (marks (length_at c.arrays)) checked.now c.arrays c.lines) }
 {
     let program = checked.program();
     let arrays = shapes_of(alloc, checked)?;

@@ -3,6 +3,7 @@ pub mod Infos
 pub mod Numbering
 pub mod Indexes
 pub mod NumberedMeaning
+pub mod Walk
 pub mod WellFormed
 pub mod Uses
 pub mod Declarations
