@@ -36,13 +36,6 @@ pub(crate) fn push_record(capture: &mut Vec<u8>, frame: &[u8]) -> Result<(), All
     capture.extend_from_slice(frame)
 }
 
-/// A capture of one frame.
-pub(crate) fn capture_of(alloc: Global, frame: &[u8]) -> Result<Vec<u8>, AllocError> {
-    let mut capture = Vec::from_slice(alloc, &FILE_HEADER)?;
-    push_record(&mut capture, frame)?;
-    Ok(capture)
-}
-
 /// A capture of UDP frames from these ports.
 pub(crate) fn packets(alloc: Global, ports: &[u16]) -> Result<Vec<u8>, AllocError> {
     let mut capture = Vec::from_slice(alloc, &FILE_HEADER)?;
@@ -54,30 +47,6 @@ pub(crate) fn packets(alloc: Global, ports: &[u16]) -> Result<Vec<u8>, AllocErro
         push_record(&mut capture, &frame)?;
     }
     Ok(capture)
-}
-
-/// So many declarations of names that begin with this letter.
-fn numbered(alloc: Global, letter: char, count: u8) -> Result<String, AllocError> {
-    let mut text = String::new(alloc);
-    for i in 0..count {
-        write!(text, "int {letter}{i}; ")?;
-    }
-    Ok(text)
-}
-
-/// A program with so many fields `f0`, `f1` and so on, so many registers `a0` and so on before the
-/// struct and `b0` and so on after it, and this body.
-pub(crate) fn wide_program(
-    alloc: Global,
-    fields: u8,
-    before: u8,
-    after: u8,
-    body: &str,
-) -> Result<String, AllocError> {
-    let fields = numbered(alloc, 'f', fields)?;
-    let before = numbered(alloc, 'a', before)?;
-    let after = numbered(alloc, 'b', after)?;
-    format!(in alloc; "{before}struct P {{ {fields}}}; {after}void f(struct P p) {{ {body} }}")
 }
 
 /// A file of this name.
