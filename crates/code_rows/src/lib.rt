@@ -1,12 +1,13 @@
-//! Rows of the compiler: bodies with their guarded lines, worked out by hand.
+//! Rows of the compiler: bodies with their guarded lines and their instructions, worked out by hand.
 #![tactic(auto)]
 
 #[cfg(test)]
 mod tests {
     use branch_removal::remove_branches;
-    use code_forms::{GuardCode, GuardExpr, GuardLine};
+    use code_forms::{FlatArray, GuardCode, GuardExpr, GuardLine};
     use domino_check::check;
     use domino_syntax::read_program;
+    use ssa_flatten::{FlatFault, flatten};
     use std::alloc::{AllocError, Global};
     use std::process::Abort;
     use std::test::Fail;
@@ -226,6 +227,96 @@ mod tests {
             ),
         ];
         assert_lines(&rt, rt.alloc(), &rows)?;
+        Ok(())
+    }
+
+    /// The array that stands for an array, the guards under which it is touched, and its later copies.
+    fn tell_array(alloc: Global, told: &mut String, array: &FlatArray) -> Result<(), AllocError> {
+        tell_text(told, &format!(in alloc; "{}:", array.same)?)?;
+        for guard in array.touched.as_slice() {
+            tell_text(told, &format!(in alloc; " {guard:?}")?)?;
+        }
+        told.push(';')?;
+        for number in array.copies.as_slice() {
+            tell_text(told, &format!(in alloc; " {number}")?)?;
+        }
+        told.push('\n')
+    }
+
+    /// The instructions, the arrays and the last values, one behind another.
+    fn told_flat(alloc: Global, text: &str) -> Result<String, AllocError> {
+        let mut told = String::new(alloc);
+        let Some(code) = code_of(alloc, text) else {
+            return format!(in alloc; "none");
+        };
+        let Ok(flat) = flatten(alloc, &code) else {
+            return format!(in alloc; "refused");
+        };
+        for instr in flat.instrs.as_slice() {
+            tell_text(&mut told, &format!(in alloc; "{instr:?}\n")?)?;
+        }
+        for array in flat.arrays.as_slice() {
+            tell_array(alloc, &mut told, array)?;
+        }
+        for last in flat.last.as_slice() {
+            tell_text(&mut told, &format!(in alloc; "{last:?} ")?)?;
+        }
+        Ok(told)
+    }
+
+    #[test]
+    fn flattens_each_line(rt: HostRuntime) -> Result<(), Fail> {
+        let rows = [
+            // an array is loaded before the line that touches it first, and stored behind all lines
+            (
+                "int a[4]; int b[4];",
+                "if (a[p.x] > 3) { b[p.y] = b[p.y] + 1; } a[p.x] = a[p.x] + 2;",
+                "Index(0, Slot(0))\nLoad(0)\nTwo(Gt, Slot(4), Number(3))\nYes(Number(1), Slot(5))\nNo(Number(1), Slot(5))\nIndex(1, Slot(1))\nLoad(1)\nTwo(Add, Slot(9), Number(1))\nPick(Slot(6), Slot(10), Slot(9))\nTwo(Add, Slot(4), Number(2))\nMove(Slot(12))\nStore(0, Slot(13))\nStore(1, Slot(11))\n0: Number(1) Number(1) Number(1); 10\n1: Slot(6) Slot(6); 8\nSlot(0) Slot(1) Slot(2) ",
+            ),
+            // indexes are the same as trees, and not by their values
+            (
+                "int a[4]; int b[4]; int c[4];",
+                "p.n = a[p.x + 1] + b[p.x + 1] + c[1 + p.x];",
+                "Two(Add, Slot(0), Number(1))\nIndex(0, Slot(3))\nLoad(0)\nTwo(Add, Slot(0), Number(1))\nIndex(1, Slot(6))\nLoad(1)\nTwo(Add, Number(1), Slot(0))\nIndex(2, Slot(9))\nLoad(2)\nTwo(Add, Slot(5), Slot(8))\nTwo(Add, Slot(12), Slot(11))\nMove(Slot(13))\nStore(0, Slot(5))\nStore(1, Slot(8))\nStore(2, Slot(11))\n0: Number(1);\n0: Number(1);\n2: Number(1);\nSlot(0) Slot(1) Slot(14) ",
+            ),
+            // an untouched array has no instruction, and a hash of two words has 0 as its third
+            (
+                "int a[4];",
+                "p.n = hash2(p.x, 5);",
+                "Hash(Two, Slot(0), Number(5), Number(0))\nMove(Slot(3))\n0:;\nSlot(0) Slot(1) Slot(4) ",
+            ),
+        ];
+        for (items, body, want) in &rows {
+            let text = with_body(rt.alloc(), items, body)?;
+            let got = told_flat(rt.alloc(), text.as_str())?;
+            assert_eq!(rt; got.as_str(), *want, "at {text}");
+        }
+        Ok(())
+    }
+
+    /// A body of so many assignments.
+    fn assignments(alloc: Global, count: u32) -> Result<String, AllocError> {
+        let mut body = String::new(alloc);
+        for _ in 0..count {
+            body.push_str("p.n = 1; ")?;
+        }
+        Ok(body)
+    }
+
+    #[test]
+    fn counts_to_1024(rt: HostRuntime) -> Result<(), Fail> {
+        let body = assignments(rt.alloc(), 1024)?;
+        let text = with_body(rt.alloc(), "", body.as_str())?;
+        let code = code_of(rt.alloc(), text.as_str()).expect(&rt, "a program");
+        let flat = flatten(rt.alloc(), &code)?;
+        assert_eq!(rt; flat.instrs.len(), 1024);
+        let body = assignments(rt.alloc(), 1025)?;
+        let text = with_body(rt.alloc(), "", body.as_str())?;
+        let code = code_of(rt.alloc(), text.as_str()).expect(&rt, "a program");
+        assert_eq!(rt;
+            flatten(rt.alloc(), &code).err(),
+            Some(FlatFault::TooLarge(1025))
+        );
         Ok(())
     }
 }

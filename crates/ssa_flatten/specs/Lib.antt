@@ -1,0 +1,4 @@
+pub mod Flattening
+pub mod Views
+pub mod Counting
+pub mod Flattened
