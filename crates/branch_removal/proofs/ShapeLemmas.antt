@@ -4,20 +4,20 @@ use Rattle.std.specs.List.{range_with_len}
 use Rattle.std.proofs.lemmas.Bool.Decides.{nat_tests}
 use Rattle.domino_tree.specs.declared.program.Program.{Program}
 use Rattle.domino_tree.specs.Value.{Array, names_of}
-use Rattle.domino_check.specs.declared.numbered.ArrayInfo.{ArrayInfo}
+use Rattle.domino_names.specs.declared.infos.ArrayInfo.{ArrayInfo}
 use Rattle.domino_check.specs.declared.numbered.CheckedExpr.{CheckedExpr}
 use Rattle.domino_check.specs.Accepted.{AreSized}
 use Rattle.domino_check.specs.Count as source_count
 use Rattle.domino_check.specs.Indexes.{AreBelow, HasIndexes, index_of, indexes_of}
-use Rattle.domino_check.specs.Infos.{infos_of, array_of}
+use Rattle.domino_names.specs.Infos.{infos_of, array_of}
 use Rattle.domino_check.specs.NumberedMeaning.{indexing}
 use Rattle.domino_check.specs.Numbering.{Access, accesses}
-use Rattle.domino_check.specs.Refused.{PassesNames}
+use Rattle.domino_names.specs.NamesRefused.{PassesNames}
 use Rattle.domino_check.specs.Sites.{is_touched, program_sites}
 use Rattle.domino_check.specs.WellFormed as source_forms
 use Rattle.domino_check.proofs.ArrayLemmas.{no_index_untouched, untouched_no_index}
 use Rattle.domino_check.proofs.BelowLemmas.{accesses_below}
-use Rattle.domino_check.proofs.CheckedLemmas.{infos_are, length-infos}
+use Rattle.domino_names.proofs.InfoLemmas.{infos_are, length-infos}
 use Rattle.domino_check.proofs.FitLemmas.{index_is_fit}
 use Rattle.code_forms.specs.declared.guard.ArrayShape.{ArrayShape}
 use Rattle.code_forms.specs.GuardValid.{index_fits, shapes_fit, shape_count}

@@ -12,16 +12,17 @@ use Rattle.domino_tree.specs.declared.program.Program.{Program}
 use Rattle.domino_tree.specs.Count.{count_of}
 use Rattle.domino_tree.specs.Execution.{State}
 use Rattle.domino_tree.specs.Value.{Array, HasCells, names_of}
-use Rattle.domino_check.specs.declared.numbered.ArrayInfo.{ArrayInfo}
+use Rattle.domino_names.specs.declared.infos.ArrayInfo.{ArrayInfo}
 use Rattle.domino_check.specs.declared.numbered.CheckedStmt.{CheckedStmt}
 use Rattle.domino_check.specs.Accepted.{AreSized, Keeps}
-use Rattle.domino_check.specs.Infos.{infos_of}
+use Rattle.domino_names.specs.Infos.{infos_of}
 use Rattle.domino_check.specs.NumberedMeaning.{indexing, place, numbered_exec, executed_from}
 use Rattle.domino_check.specs.Numbering.{numbered_body}
 use Rattle.domino_check.specs.Refused.{Passes}
 use Rattle.domino_check.specs.Sites.{Site, program_indexes, program_sites}
 use Rattle.domino_check.proofs.Agreement.{agreement}
 use Rattle.domino_check.proofs.BodyCountLemmas.{count_agrees}
+use Rattle.domino_names.proofs.InfoLemmas.{length-infos}
 use Rattle.domino_check.proofs.CheckedLemmas as checked
 use Rattle.domino_check.proofs.FitLemmas.{body_is_fit}
 use Rattle.domino_check.proofs.SiteLemmas.{touched_by, touched_at}
@@ -121,7 +122,7 @@ module _ (p : Program) (passes : Passes p) (keeps : Keeps p) where
   width = length p.packet.fields
 
   long : length shapes ≡ length (names_of p).arrays
-  long = shapes_long p ∙ checked.length-infos p
+  long = shapes_long p ∙ length-infos p
 
   fit : list_all (line_fits width (length shapes)) lines ≡ true
   fit = ap (λ n. list_all (line_fits width n) lines) long ∙ lines_fit width (length (names_of p).arrays) body (body_is_fit p passes.names)

@@ -1,8 +1,8 @@
 -- The arrays of guarded code: those of the program, each with the index of its accesses.
 use Rattle.std.specs.Prelude.{ℕ, suc, List, [], ◌∷◌}
 use Rattle.domino_tree.specs.declared.program.Program.{Program}
-use Rattle.domino_check.specs.declared.numbered.ArrayInfo.{ArrayInfo}
-use Rattle.domino_check.specs.Infos.{infos_of}
+use Rattle.domino_names.specs.declared.infos.ArrayInfo.{ArrayInfo}
+use Rattle.domino_names.specs.Infos.{infos_of}
 use Rattle.domino_check.specs.Numbering.{Access, accesses}
 use Rattle.domino_check.specs.Indexes.{index_of}
 use Rattle.code_forms.specs.declared.guard.ArrayShape.{ArrayShape}

@@ -17,8 +17,8 @@ use Rattle.domino_tree.proofs.ExprLemmas.{Each, induct}
 use Rattle.domino_tree.proofs.StmtLemmas as statements
 use Rattle.domino_check.specs.declared.numbered.CheckedExpr.{CheckedExpr}
 use Rattle.domino_check.specs.declared.numbered.CheckedExpr.TheVariants as expr
-use Rattle.domino_check.specs.Uses.{joined, expr_uses, target_uses, stmt_uses, arm_uses}
-use Rattle.domino_check.specs.Refused.{PassesNames}
+use Rattle.domino_names.specs.Uses.{joined, expr_uses, target_uses, stmt_uses, arm_uses}
+use Rattle.domino_names.specs.NamesRefused.{PassesNames}
 use Rattle.domino_check.specs.declared.numbered.CheckedStmt.{CheckedStmt}
 use Rattle.domino_check.specs.Numbering.{Access}
 use Rattle.domino_check.specs.Numbering as numbers
@@ -27,7 +27,7 @@ use Rattle.domino_check.specs.Indexes.{Keeps, AllKeep, HasIndexes}
 use Rattle.domino_check.specs.NumberedMeaning.{Indexing, indexing, plain_value, named_place, place, numbered_value, numbered_arrays, numbered_step, numbered_choice, numbered_exec}
 use Rattle.domino_check.proofs.NumberingLemmas as numbering
 use Rattle.domino_check.proofs.MeaningLemmas as meaning
-use Rattle.domino_check.proofs.UseLemmas.{AllCalls, calls_left, calls_right, body_calls, expr_uses-Cell, expr_uses-One, expr_uses-Two, expr_uses-Pick, expr_uses-Call, expr_uses-Group, stmt_uses-Set, stmt_uses-If, stmt_uses-Else, arm_uses-Arm}
+use Rattle.domino_names.proofs.UseLemmas.{AllCalls, calls_left, calls_right, body_calls, expr_uses-Cell, expr_uses-One, expr_uses-Two, expr_uses-Pick, expr_uses-Call, expr_uses-Group, stmt_uses-Set, stmt_uses-If, stmt_uses-Else, arm_uses-Arm}
 
 -- ---- accesses that have the index of their array
 

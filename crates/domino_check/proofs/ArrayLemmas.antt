@@ -16,16 +16,16 @@ use Rattle.domino_tree.proofs.ExprLemmas.{Each, induct}
 use Rattle.domino_tree.proofs.StmtLemmas as statements
 use Rattle.domino_check.specs.Numbering.{Access}
 use Rattle.domino_check.specs.declared.sites.Touch.{Touch}
-use Rattle.domino_check.specs.Uses.{joined, expr_uses, target_uses, stmt_uses, arm_uses}
+use Rattle.domino_names.specs.Uses.{joined, expr_uses, target_uses, stmt_uses, arm_uses}
 use Rattle.domino_check.specs.Numbering as numbers
 use Rattle.domino_check.specs.Numbering.{Numbered, in_numbers, numbered, accesses_in, access_at, numbered_word, numbered_set, numbered_stmt, numbered_arm, target_accesses, stmt_accesses, arm_accesses, block_accesses, numbered_body, accesses}
 use Rattle.domino_check.specs.Indexes.{AllKeep, HasIndexes, index_of}
 use Rattle.domino_check.specs.NumberedMeaning.{Indexing, indexing, numbered_arrays}
-use Rattle.domino_check.specs.Refused.{PassesNames}
+use Rattle.domino_names.specs.NamesRefused.{PassesNames}
 use Rattle.domino_check.specs.Sites.{Site, touches, is_touched, program_sites}
 use Rattle.domino_check.specs.Touches.{touch_of, joined_touches, stmt_touches, arm_touches}
 use Rattle.domino_check.proofs.NumberingLemmas as numbering
-use Rattle.domino_check.proofs.UseLemmas.{AllCalls, calls_left, calls_right, body_calls, stmt_uses-Set, stmt_uses-If, stmt_uses-Else, arm_uses-Arm}
+use Rattle.domino_names.proofs.UseLemmas.{AllCalls, calls_left, calls_right, body_calls, stmt_uses-Set, stmt_uses-If, stmt_uses-Else, arm_uses-Arm}
 use Rattle.domino_check.proofs.Agreement.{keep_front, keep_back, nowhere, same_value, cell_place}
 use Rattle.domino_check.proofs.IndexLemmas.{IsUntouched, untouched_from_none, none_from_untouched}
 use Rattle.domino_check.proofs.SiteLemmas.{any_append}

@@ -10,19 +10,19 @@ use Rattle.domino_tree.specs.declared.program.Program.{Program}
 use Rattle.domino_tree.specs.Value.{names_of, number_of, array_number}
 use Rattle.domino_tree.proofs.ExprLemmas.{Each, induct}
 use Rattle.domino_tree.proofs.StmtLemmas as statements
-use Rattle.domino_check.specs.declared.role.Role.TheVariants as role
-use Rattle.domino_check.specs.declared.role.Kind.{Kind}
-use Rattle.domino_check.specs.declared.role.Kind.TheVariants as kind
-use Rattle.domino_check.specs.declared.role.Class.TheVariants as class
-use Rattle.domino_check.specs.Uses.{Use, joined, expr_uses, target_uses, stmt_uses, arm_uses}
-use Rattle.domino_check.specs.Checks.{kinds_in, takes}
+use Rattle.domino_names.specs.declared.role.Role.TheVariants as role
+use Rattle.domino_names.specs.declared.role.Kind.{Kind}
+use Rattle.domino_names.specs.declared.role.Kind.TheVariants as kind
+use Rattle.domino_names.specs.declared.role.Class.TheVariants as class
+use Rattle.domino_names.specs.Uses.{Use, joined, expr_uses, target_uses, stmt_uses, arm_uses}
+use Rattle.domino_names.specs.Checks.{kinds_in, takes}
 use Rattle.domino_check.specs.Numbering.{Access}
 use Rattle.domino_check.specs.Numbering.{Numbered, numbered_word, in_numbers, accesses_in, target_accesses, stmt_accesses, arm_accesses, in_turn, block_accesses, accesses}
 use Rattle.domino_check.specs.Indexes.{AreBelow}
-use Rattle.domino_check.specs.Refused.{PassesNames}
-use Rattle.domino_check.proofs.UseLemmas.{AllGood, good_left, good_right, body_good, expr_uses-Number, expr_uses-Word, expr_uses-Cell, expr_uses-One, expr_uses-Two, expr_uses-Pick, expr_uses-Call, expr_uses-Group, stmt_uses-Set, stmt_uses-If, stmt_uses-Else, arm_uses-Arm}
+use Rattle.domino_names.specs.NamesRefused.{PassesNames}
+use Rattle.domino_names.proofs.UseLemmas.{AllGood, good_left, good_right, body_good, expr_uses-Number, expr_uses-Word, expr_uses-Cell, expr_uses-One, expr_uses-Two, expr_uses-Pick, expr_uses-Call, expr_uses-Group, stmt_uses-Set, stmt_uses-If, stmt_uses-Else, arm_uses-Arm}
 use Rattle.domino_check.proofs.NumberingLemmas.{in_numbers-Number, in_numbers-Word, in_numbers-Field, in_numbers-Cell, in_numbers-One, in_numbers-Two, in_numbers-Pick, in_numbers-Call, in_numbers-Group, stmt_accesses-Set, stmt_accesses-If, stmt_accesses-Else, arm_accesses-Arm}
-use Rattle.domino_check.proofs.DeclaredLemmas.{defined_number, register_number}
+use Rattle.domino_names.proofs.DeclaredLemmas.{defined_number, register_number}
 
 -- ---- accesses
 

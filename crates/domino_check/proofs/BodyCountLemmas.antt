@@ -27,7 +27,7 @@ use Rattle.domino_check.specs.Numbering.{Access}
 use Rattle.domino_check.specs.Numbering as numbers
 use Rattle.domino_check.specs.Numbering.{Numbered, in_numbers, numbered, accesses_in, plain_index, access_at, register_at, numbered_word, called, numbered_set, numbered_stmt, numbered_arm, target_accesses, stmt_accesses, arm_accesses, block_accesses, numbered_body, accesses}
 use Rattle.domino_check.specs.Indexes.{AllKeep, HasIndexes, AreBelow, index_of}
-use Rattle.domino_check.specs.Refused.{PassesNames}
+use Rattle.domino_names.specs.NamesRefused.{PassesNames}
 use Rattle.domino_check.specs.Sites.{Site, Sited, SitedArm, condition_site, in_block, in_last_block, in_chain, stmt_sites, arm_sites, program_indexes}
 use Rattle.domino_check.specs.Count.{counting, operators_in, site_count, index_count, numbered_count}
 use Rattle.domino_check.proofs.NumberingLemmas as numbering

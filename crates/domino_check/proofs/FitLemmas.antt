@@ -25,19 +25,19 @@ use Rattle.domino_check.specs.declared.numbered.CheckedStmt.TheOpen as O
 use Rattle.domino_check.specs.declared.numbered.CheckedStmt.TheVariants as stmt
 use Rattle.domino_check.specs.declared.numbered.CheckedArm.{CheckedArm, fold-roll-CheckedArm}
 use Rattle.domino_check.specs.Numbering.{Access}
-use Rattle.domino_check.specs.declared.role.Kind.{Kind}
-use Rattle.domino_check.specs.declared.role.Kind.TheVariants as kind
-use Rattle.domino_check.specs.declared.role.Role.TheVariants as role
-use Rattle.domino_check.specs.declared.role.Class.TheVariants as class
-use Rattle.domino_check.specs.Uses.{Use, joined, expr_uses, target_uses, stmt_uses, arm_uses}
-use Rattle.domino_check.specs.Checks.{kinds_in, takes}
+use Rattle.domino_names.specs.declared.role.Kind.{Kind}
+use Rattle.domino_names.specs.declared.role.Kind.TheVariants as kind
+use Rattle.domino_names.specs.declared.role.Role.TheVariants as role
+use Rattle.domino_names.specs.declared.role.Class.TheVariants as class
+use Rattle.domino_names.specs.Uses.{Use, joined, expr_uses, target_uses, stmt_uses, arm_uses}
+use Rattle.domino_names.specs.Checks.{kinds_in, takes}
 use Rattle.domino_check.specs.Numbering.{Numbered, in_numbers, numbered, accesses_in, plain_index, access_at, register_at, numbered_word, or_two, called, numbered_set, numbered_stmt, numbered_arm, target_accesses, stmt_accesses, arm_accesses, in_turn, block_accesses, numbered_body, accesses}
 use Rattle.domino_check.specs.Indexes.{AreBelow, index_of}
-use Rattle.domino_check.specs.Refused.{PassesNames}
+use Rattle.domino_names.specs.NamesRefused.{PassesNames}
 use Rattle.domino_check.specs.WellFormed.{fitting, fits, index_fits, stmt_fitting, arm_fitting, stmt_fits, arm_fits, body_fits}
 use Rattle.domino_check.proofs.NumberingLemmas as numbering
-use Rattle.domino_check.proofs.DeclaredLemmas.{field_below}
-use Rattle.domino_check.proofs.UseLemmas.{AllGood, good_left, good_right, body_good, expr_uses-Field, expr_uses-Cell, expr_uses-One, expr_uses-Two, expr_uses-Pick, expr_uses-Call, expr_uses-Group, stmt_uses-Set, stmt_uses-If, stmt_uses-Else, arm_uses-Arm}
+use Rattle.domino_names.proofs.DeclaredLemmas.{field_below}
+use Rattle.domino_names.proofs.UseLemmas.{AllGood, good_left, good_right, body_good, expr_uses-Field, expr_uses-Cell, expr_uses-One, expr_uses-Two, expr_uses-Pick, expr_uses-Call, expr_uses-Group, stmt_uses-Set, stmt_uses-If, stmt_uses-Else, arm_uses-Arm}
 use Rattle.domino_check.proofs.BelowLemmas.{accesses_below}
 use Rattle.std.proofs.Common.{true≢false}
 

@@ -4,15 +4,15 @@ use Rattle.std.proofs.lemmas.List.{length-replicate, get_or-replicate, get_or-ma
 use Rattle.std.proofs.lemmas.List.FromFn.{fill_by_all}
 use Rattle.std.proofs.lemmas.Bool.Decides.{eqb_tells}
 use Rattle.domino_tree.specs.Value.{Array}
-use Rattle.domino_check.specs.declared.fault.CheckFault.{CheckFault}
-use Rattle.domino_check.specs.declared.fault.CheckFault.TheVariants as fault
-use Rattle.domino_check.specs.declared.numbered.ArrayInfo.{ArrayInfo}
+use Rattle.domino_names.specs.declared.fault.CheckFault.{CheckFault}
+use Rattle.domino_names.specs.declared.fault.CheckFault.TheVariants as fault
+use Rattle.domino_names.specs.declared.infos.ArrayInfo.{ArrayInfo}
 use Rattle.domino_check.specs.declared.numbered.CheckedExpr.{CheckedExpr}
 use Rattle.domino_check.specs.Numbering.{Access}
-use Rattle.domino_check.specs.First.{FirstFault, NoFault}
-use Rattle.domino_check.specs.Infos.{array_of}
+use Rattle.domino_names.specs.First.{FirstFault, NoFault}
+use Rattle.domino_names.specs.Infos.{array_of}
 use Rattle.domino_check.specs.Indexes.{index_of, IsOther, Agrees, Keeps, AllKeep, array_name, IndexDiffersAt, AreIndexes, AreBelow, indexes_of, noted}
-use Rattle.domino_check.proofs.FirstLemmas.{none_with, first_at}
+use Rattle.domino_names.proofs.FirstLemmas.{none_with, first_at}
 
 -- the names of the arrays, kept with and without whether each is a register
 array_names : (infos : List ArrayInfo) → map (λ (d : Array). d.name) (map array_of infos) ≡ map (λ (i : ArrayInfo). i.name) infos

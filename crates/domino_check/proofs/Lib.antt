@@ -1,9 +1,6 @@
-pub mod CountLemmas
-pub mod FirstLemmas
 pub mod NumberingLemmas
 pub mod IndexLemmas
 pub mod MeaningLemmas
-pub mod TableLemmas
 pub mod Agreement
 pub mod SiteLemmas
 pub mod TreeLemmas
@@ -13,13 +10,7 @@ pub mod ReachedLemmas
 pub mod ArrayLemmas
 pub mod BodyCountLemmas
 pub mod CheckedLemmas
-pub mod DeclaredLemmas
-pub mod UseLemmas
 pub mod BelowLemmas
 pub mod FitLemmas
 pub mod PartsLemmas
 pub mod RefusedLemmas
-pub mod ScopeLemmas
-pub mod SymbolLemmas
-pub mod OnceLemmas
-pub mod AssemblyLemmas

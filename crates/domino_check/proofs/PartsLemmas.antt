@@ -6,12 +6,12 @@ use Rattle.domino_tree.specs.declared.program.Item.TheVariants as item
 use Rattle.domino_tree.specs.declared.program.Program.{Program}
 use Rattle.domino_tree.specs.Value.{Defined, Array, names_of, size_value}
 use Rattle.mp5_words.specs.Cells.{natural}
-use Rattle.domino_check.specs.declared.fault.CheckFault.TheVariants as fault
-use Rattle.domino_check.specs.declared.fault.What.TheVariants as what
-use Rattle.domino_check.specs.declared.numbered.ArrayInfo.{ArrayInfo}
-use Rattle.domino_check.specs.First.{NoFault}
-use Rattle.domino_check.specs.Checks.{bad_of, BadLengthAt, NoBadLength, NoTooMany, NoTwice}
-use Rattle.domino_check.specs.Infos.{item_info, infos_of, array_of}
+use Rattle.domino_names.specs.declared.fault.CheckFault.TheVariants as fault
+use Rattle.domino_names.specs.declared.fault.What.TheVariants as what
+use Rattle.domino_names.specs.declared.infos.ArrayInfo.{ArrayInfo}
+use Rattle.domino_names.specs.First.{NoFault}
+use Rattle.domino_names.specs.Checks.{bad_of, BadLengthAt, NoBadLength, NoTooMany, NoTwice}
+use Rattle.domino_names.specs.Infos.{item_info, infos_of, array_of}
 use Rattle.domino_check.specs.Accepted.{AreSized, Keeps}
 use Rattle.std.proofs.lemmas.List.FromFn.{length-map-range_with_len}
 use Rattle.domino_check.specs.declared.numbered.CheckedExpr.{CheckedExpr}
@@ -19,11 +19,11 @@ use Rattle.domino_check.specs.Numbering.{Access}
 use Rattle.domino_check.specs.Numbering.{accesses}
 use Rattle.domino_check.specs.Indexes.{AreBelow, AllKeep, index_of, indexes_of}
 use Rattle.domino_check.specs.Sites.{program_indexes}
-use Rattle.domino_check.specs.Refused.{PassesNames, PassesSizes}
-use Rattle.domino_check.specs.Symbols.{Named, Numbers, HasNumbers, StandFor, IsScope, names_from, symbols_of}
+use Rattle.domino_names.specs.NamesRefused.{PassesNames, PassesSizes}
+use Rattle.domino_names.specs.Symbols.{Named, Numbers, HasNumbers, StandFor, IsScope, names_from, symbols_of}
 use Rattle.domino_check.proofs.BelowLemmas.{accesses_below}
-use Rattle.domino_check.proofs.CheckedLemmas.{infos_are, length-infos}
-use Rattle.domino_check.proofs.OnceLemmas.{defines_of_program, names_are, stand_for}
+use Rattle.domino_names.proofs.InfoLemmas.{infos_are, length-infos}
+use Rattle.domino_names.proofs.OnceLemmas.{defines_of_program, names_are, stand_for}
 
 -- ---- counts
 

@@ -16,7 +16,7 @@ use Rattle.domino_check.specs.Numbering.{numbered_body}
 use Rattle.domino_check.specs.NumberedMeaning.{Indexing, indexing, numbered_arrays, numbered_value, set_field, set_cell, numbered_step, numbered_choice, numbered_exec}
 use Rattle.domino_check.specs.Sites.{Site, Sited, SitedArm, field_site, cell_site, condition_site, in_block, in_last_block, in_chain, stmt_sites, arm_sites, sites_of}
 use Rattle.domino_check.specs.Indexes.{HasIndexes}
-use Rattle.domino_check.specs.Refused.{PassesNames}
+use Rattle.domino_names.specs.NamesRefused.{PassesNames}
 use Rattle.domino_check.specs.Reached.{Walk, WalkArm, block_reaches, last_reaches, chain_reaches, all_do, stmt_walking, arm_walking, walk, walk_arm, reached_sites, TouchesReached}
 use Rattle.domino_check.proofs.Agreement.{agreement}
 use Rattle.domino_check.proofs.MeaningLemmas as meaning

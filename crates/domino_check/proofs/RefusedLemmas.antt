@@ -5,17 +5,18 @@ use Rattle.std.proofs.lemmas.Result.{IfErr-weaker}
 use Rattle.domino_tree.specs.declared.program.Item.{Item}
 use Rattle.domino_tree.specs.declared.program.Program.{Program}
 use Rattle.domino_tree.specs.Value.{Defined, Array, names_of}
-use Rattle.domino_check.specs.declared.fault.CheckFault.{CheckFault}
-use Rattle.domino_check.specs.declared.fault.CheckFault.TheVariants as fault
+use Rattle.domino_names.specs.declared.fault.CheckFault.{CheckFault}
+use Rattle.domino_names.specs.declared.fault.CheckFault.TheVariants as fault
 use Rattle.domino_check.specs.declared.numbered.CheckedExpr.{CheckedExpr}
-use Rattle.domino_check.specs.Uses.{uses_of}
-use Rattle.domino_check.specs.Declarations.{Declaration, declarations}
-use Rattle.domino_check.specs.Checks.{TwiceAt, UnknownAt, WrongKindAt, ArityAt, BadLengthAt, TooManyAt, kinds_in, item_name, counted}
+use Rattle.domino_names.specs.Uses.{uses_of}
+use Rattle.domino_names.specs.Declarations.{Declaration, declarations}
+use Rattle.domino_names.specs.Checks.{TwiceAt, UnknownAt, WrongKindAt, ArityAt, BadLengthAt, TooManyAt, kinds_in, item_name, counted}
 use Rattle.domino_check.specs.Numbering.{accesses}
 use Rattle.domino_check.specs.Indexes.{IndexDiffersAt, array_name}
 use Rattle.domino_check.specs.Sites.{Assigned, Site, MovesFirst, IndexMovesAt, program_indexes, program_sites}
-use Rattle.domino_check.specs.Refused.{OrElse, RefusedNames, RefusedSizes, RefusedIndexes, PassesNames, PassesSizes, PassesIndexes, Refused, Passes}
-use Rattle.domino_check.proofs.FirstLemmas.{not_both, one_first}
+use Rattle.domino_names.specs.NamesRefused.{OrElse, RefusedNames, RefusedSizes, PassesNames, PassesSizes}
+use Rattle.domino_check.specs.Refused.{RefusedIndexes, PassesIndexes, Refused, Passes}
+use Rattle.domino_names.proofs.FirstLemmas.{not_both, one_first}
 
 -- ---- one fault at a place
 

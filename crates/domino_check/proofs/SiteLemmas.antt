@@ -6,16 +6,16 @@ use Rattle.std.proofs.lemmas.Bool.{and_parts, ltb-true, ltb-false}
 use Rattle.std.proofs.lemmas.Bool.Decides.{eqb_tells}
 use Rattle.domino_tree.specs.Value.{Array}
 use Rattle.mp5_words.specs.Cells.{touching}
-use Rattle.domino_check.specs.declared.fault.CheckFault.{CheckFault}
-use Rattle.domino_check.specs.declared.fault.CheckFault.TheVariants as fault
+use Rattle.domino_names.specs.declared.fault.CheckFault.{CheckFault}
+use Rattle.domino_names.specs.declared.fault.CheckFault.TheVariants as fault
 use Rattle.domino_check.specs.declared.numbered.CheckedExpr.{CheckedExpr}
 use Rattle.domino_check.specs.declared.numbered.CheckedExpr.TheVariants as expr
 use Rattle.domino_check.specs.declared.sites.Touch.{Touch}
-use Rattle.domino_check.specs.First.{FirstFault}
+use Rattle.domino_names.specs.First.{FirstFault}
 use Rattle.domino_check.specs.Indexes.{array_name}
 use Rattle.domino_check.specs.Sites.{Assigned, to_field, to_cell, nothing, Site, touches, is_touched, index_mentions, stands_in, Moves, MovesFirst, IndexMovesAt, NoneMoves}
 use Rattle.domino_check.specs.Touches.{field_of, touch_of, is_moved, MovedBy}
-use Rattle.domino_check.proofs.FirstLemmas.{where_of, nil_or_more, first_with}
+use Rattle.domino_names.proofs.FirstLemmas.{where_of, nil_or_more, first_with}
 
 -- ---- marks
 

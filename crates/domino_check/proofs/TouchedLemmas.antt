@@ -12,7 +12,7 @@ use Rattle.domino_check.specs.Sites.{Site, Sited, SitedArm, field_site, cell_sit
 use Rattle.domino_tree.specs.declared.program.Program.{Program}
 use Rattle.domino_check.specs.Numbering.{numbered_body}
 use Rattle.domino_check.specs.Indexes.{HasIndexes}
-use Rattle.domino_check.specs.Refused.{PassesNames}
+use Rattle.domino_names.specs.NamesRefused.{PassesNames}
 use Rattle.domino_check.specs.Touched.{TouchesBySites}
 use Rattle.domino_check.proofs.Agreement.{agreement}
 use Rattle.domino_check.proofs.MeaningLemmas as meaning

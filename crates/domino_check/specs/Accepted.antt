@@ -1,11 +1,11 @@
 -- What a checked program keeps and offers, each of which is a function of the program.
 use Rattle.std.specs.Prelude.{◌≡◌, ℕ, ◌≤◌, List, [], ◌∷◌, length, map, sum, Option}
 use Rattle.domino_tree.specs.declared.program.Program.{Program}
-use Rattle.domino_check.specs.declared.numbered.ArrayInfo.{ArrayInfo}
+use Rattle.domino_names.specs.declared.infos.ArrayInfo.{ArrayInfo}
 use Rattle.domino_check.specs.declared.numbered.CheckedExpr.{CheckedExpr}
 use Rattle.domino_check.specs.declared.numbered.CheckedStmt.{CheckedStmt}
 use Rattle.domino_check.specs.declared.parts.Parts.{Parts}
-use Rattle.domino_check.specs.Infos.{infos_of}
+use Rattle.domino_names.specs.Infos.{infos_of}
 use Rattle.domino_check.specs.Numbering.{numbered_body}
 use Rattle.domino_check.specs.Indexes.{HasIndexes}
 use Rattle.domino_check.specs.Sites.{program_indexes}

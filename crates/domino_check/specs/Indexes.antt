@@ -3,11 +3,11 @@ use Rattle.std.specs.Prelude.{◌≡◌, ℕ, ◌<◌, ◌==◌, if◌then◌els
 use Rattle.std.specs.List.{slice_index_or, range_with_len}
 use Rattle.domino_tree.specs.declared.program.Program.{Program}
 use Rattle.domino_tree.specs.Value.{Array, names_of}
-use Rattle.domino_check.specs.declared.fault.CheckFault.{CheckFault}
-use Rattle.domino_check.specs.declared.fault.CheckFault.TheVariants as fault
+use Rattle.domino_names.specs.declared.fault.CheckFault.{CheckFault}
+use Rattle.domino_names.specs.declared.fault.CheckFault.TheVariants as fault
 use Rattle.domino_check.specs.declared.numbered.CheckedExpr.{CheckedExpr}
 use Rattle.domino_check.specs.Numbering.{Access}
-use Rattle.domino_check.specs.First.{FirstFault, NoFault}
+use Rattle.domino_names.specs.First.{FirstFault, NoFault}
 use Rattle.domino_check.specs.Numbering.{accesses}
 
 -- the index of an array: that of its first access, where it is accessed

@@ -1,14 +1,8 @@
-pub mod First
-pub mod Infos
 pub mod Numbering
 pub mod Indexes
 pub mod NumberedMeaning
 pub mod Walk
 pub mod WellFormed
-pub mod Uses
-pub mod Declarations
-pub mod Checks
-pub mod Symbols
 pub mod Sites
 pub mod Touches
 pub mod Touched

@@ -4,14 +4,14 @@ use Rattle.std.specs.Prelude.{◌≡◌, ℕ, ◌<◌, ◌==◌, Bool, true, fal
 use Rattle.std.specs.List.{list_any, slice_index_or}
 use Rattle.domino_tree.specs.declared.program.Program.{Program}
 use Rattle.domino_tree.specs.Value.{Array, names_of}
-use Rattle.domino_check.specs.declared.fault.CheckFault.{CheckFault}
-use Rattle.domino_check.specs.declared.fault.CheckFault.TheVariants as fault
+use Rattle.domino_names.specs.declared.fault.CheckFault.{CheckFault}
+use Rattle.domino_names.specs.declared.fault.CheckFault.TheVariants as fault
 use Rattle.domino_check.specs.declared.numbered.CheckedExpr.{CheckedExpr, fold-CheckedExpr}
 use Rattle.domino_check.specs.declared.numbered.CheckedExpr.TheOpen.{CheckedExpr-F}
 use Rattle.domino_check.specs.declared.numbered.CheckedStmt.{CheckedStmt, fold-CheckedStmt}
 use Rattle.domino_check.specs.declared.numbered.CheckedStmt.TheOpen as open_form
 use Rattle.domino_check.specs.declared.numbered.CheckedArm.{CheckedArm, fold-CheckedArm}
-use Rattle.domino_check.specs.First.{FirstFault}
+use Rattle.domino_names.specs.First.{FirstFault}
 use Rattle.domino_check.specs.Numbering.{numbered_body, accesses}
 use Rattle.domino_check.specs.Indexes.{array_name, indexes_of}
 use Rattle.domino_check.specs.NumberedMeaning.{numbered_arrays}

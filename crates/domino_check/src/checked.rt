@@ -1,6 +1,6 @@
 ghost use Rattle.std.specs.Prelude.{◌≡◌, ◌<◌, ◌↔◌, ℕ, length, None, true, false};
 ghost use Rattle.std.specs.Option.{option_copied};
-ghost use Rattle.domino_check.specs.Infos.{infos_of};
+ghost use Rattle.domino_names.specs.Infos.{infos_of};
 ghost use Rattle.domino_check.specs.Numbering.{numbered_body, accesses};
 ghost use Rattle.domino_check.specs.Indexes.{index_of};
 ghost use Rattle.domino_check.specs.Count.{numbered_count};
@@ -14,8 +14,9 @@ ghost use Rattle.domino_check.specs.WellFormed.{body_fits, index_fits};
 ghost use Rattle.domino_tree.specs.Count.{count_of};
 ghost use Rattle.domino_tree.specs.Execution.{State};
 
-use crate::numbered::{ArrayInfo, CheckedExpr, CheckedStmt};
+use crate::numbered::{CheckedExpr, CheckedStmt};
 use crate::parts::Parts;
+use domino_names::ArrayInfo;
 use domino_tree::Program;
 use mp5_words::FieldNames;
 use sqlite_items::Items;

@@ -1,15 +1,14 @@
 //! The index of each array.
 ghost use Rattle.std.specs.Prelude.{◌≡◌, ◌≢◌, ◌<◌, ◌↔◌, length, map, Some, None, IsTrue, IfOk, IfErr, OnOk, []};
 ghost use Rattle.std.specs.List.{slice_index_or};
-ghost use Rattle.domino_check.specs.declared.fault.CheckFault.TheVariants as fault;
-ghost use Rattle.domino_check.specs.First.{FirstFault, NoFault};
-ghost use Rattle.domino_check.specs.Infos.{array_of};
+ghost use Rattle.domino_names.specs.declared.fault.CheckFault.TheVariants as fault;
+ghost use Rattle.domino_names.specs.First.{FirstFault, NoFault};
+ghost use Rattle.domino_names.specs.Infos.{array_of};
 ghost use Rattle.domino_check.specs.Indexes.{IndexDiffersAt, IsOther, AreIndexes, AreBelow, AllKeep, Agrees, index_of, indexes_of, noted, array_name};
 
-use crate::copies::copy_name;
-use crate::fault::CheckFault;
-use crate::numbered::{ArrayInfo, CheckedExpr, same};
+use crate::numbered::{CheckedExpr, same};
 use crate::translation::Access;
+use domino_names::{ArrayInfo, CheckFault, copy_name};
 use sqlite_items::Items;
 use std::alloc::{AllocError, Global};
 

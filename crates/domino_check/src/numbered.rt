@@ -1,19 +1,7 @@
 ghost use Rattle.std.specs.Prelude.{◌≡◌, ◌↔◌, IsTrue};
 
-use mp5_words::{HashKind, Name, Op1, Op2};
+use mp5_words::{HashKind, Op1, Op2};
 use sqlite_items::{Boxed, Items};
-
-/// What is declared of a register array. A register is an array of one cell, declared without a length.
-#[derive(Debug, Drop)]
-pub struct ArrayInfo {
-    pub name: Name,
-    /// How many cells it has.
-    pub length: u32,
-    /// Whether it was declared without a length.
-    pub scalar: bool,
-    /// The word that each cell starts at.
-    pub start: i32,
-}
 
 /// An expression in which fields and arrays are numbers in order of declaration, defined names are their
 /// numbers, and no bracket and no index stands.

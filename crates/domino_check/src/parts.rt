@@ -2,23 +2,20 @@
 
 ghost use Rattle.std.specs.Prelude.{◌≡◌, ◌≤◌, ◌++◌, length, IfOk, OnOk};
 ghost use Rattle.domino_check.specs.Accepted.{ArePartsOf};
-ghost use Rattle.domino_check.specs.Checks.{NoTwice};
-ghost use Rattle.domino_check.specs.Infos.{infos_of};
+ghost use Rattle.domino_names.specs.Checks.{NoTwice};
+ghost use Rattle.domino_names.specs.Infos.{infos_of};
 ghost use Rattle.domino_check.specs.Numbering.{numbered_body, accesses};
-ghost use Rattle.domino_check.specs.First.{IfRefused};
-ghost use Rattle.domino_check.specs.Refused.{PassesNames, PassesSizes, PassesIndexes};
+ghost use Rattle.domino_names.specs.First.{IfRefused};
+ghost use Rattle.domino_names.specs.NamesRefused.{PassesNames, PassesSizes};
+ghost use Rattle.domino_check.specs.Refused.{PassesIndexes};
 ghost use Rattle.domino_check.specs.Refused.{RefusedIndexes};
-ghost use Rattle.domino_check.specs.Symbols.{symbols_of};
+ghost use Rattle.domino_names.specs.Symbols.{symbols_of};
 
-use crate::copies::copy_names;
-use crate::fault::CheckFault;
 use crate::indexes::index_table;
-use crate::infos::infos_of;
-use crate::numbered::{ArrayInfo, CheckedExpr, CheckedStmt};
-use crate::scope::Scope;
+use crate::numbered::{CheckedExpr, CheckedStmt};
 use crate::sites::{check_sites, push_block};
-use crate::symbol_table::Symbols;
 use crate::translation::{Access, number_block};
+use domino_names::{ArrayInfo, CheckFault, Scope, Symbols, copy_names, infos_of};
 use domino_tree::Program;
 use mp5_words::{FieldNames, Name};
 use sqlite_items::Items;

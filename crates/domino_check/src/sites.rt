@@ -2,17 +2,16 @@
 ghost use Rattle.std.specs.Prelude.{List, ◌≡◌, ◌≢◌, ◌++◌, ◌∷◌, [], length, map, flat_map, OnOk, IfOk, IfErr, MatchOption, Some, None, ◌<◌, false};
 ghost use Rattle.std.specs.List.{list_any, slice_index_or};
 ghost use Rattle.mp5_words.specs.Cells.{touching};
-ghost use Rattle.domino_check.specs.declared.fault.CheckFault.TheVariants as fault;
-ghost use Rattle.domino_check.specs.First.{FirstFault};
+ghost use Rattle.domino_names.specs.declared.fault.CheckFault.TheVariants as fault;
+ghost use Rattle.domino_names.specs.First.{FirstFault};
 ghost use Rattle.domino_check.specs.Indexes.{array_name};
-ghost use Rattle.domino_check.specs.Infos.{array_of};
+ghost use Rattle.domino_names.specs.Infos.{array_of};
 ghost use Rattle.domino_check.specs.NumberedMeaning.{numbered_arrays};
 ghost use Rattle.domino_check.specs.Sites.{Site, mentions, index_mentions, IndexMovesAt, NoneMoves};
 ghost use Rattle.domino_check.specs.Touches.{stmt_touches, arm_touches, touches_of, joined_touches, touch_of, IsFirstMoved, NoneMoved, MovedBy};
 
-use crate::copies::copy_name;
-use crate::fault::CheckFault;
-use crate::numbered::{ArrayInfo, CheckedArm, CheckedExpr, CheckedStmt};
+use crate::numbered::{CheckedArm, CheckedExpr, CheckedStmt};
+use domino_names::{ArrayInfo, CheckFault, copy_name};
 use sqlite_items::Items;
 use std::alloc::{AllocError, Global};
 

@@ -7,7 +7,7 @@ ghost use Rattle.domino_check.specs.Numbering.{target_accesses, stmt_accesses, a
 ghost use Rattle.domino_check.specs.Numbering.{block_accesses};
 
 use crate::numbered::{CheckedArm, CheckedExpr, CheckedStmt};
-use crate::scope::Scope;
+use domino_names::Scope;
 use domino_tree::{Arm, Expr, Stmt, Target, hash_kind};
 use mp5_words::{HashKind, Name};
 use sqlite_items::{Boxed, Items};

@@ -15,16 +15,16 @@ use Rattle.domino_tree.specs.Sequential.{start_cells, untouched}
 use Rattle.domino_check.specs.declared.numbered.CheckedStmt.{CheckedStmt}
 use Rattle.domino_check.specs.declared.numbered.CheckedStmt.TheVariants as s
 use Rattle.domino_check.specs.declared.numbered.CheckedArm.{CheckedArm}
-use Rattle.domino_check.specs.declared.numbered.ArrayInfo.{ArrayInfo}
+use Rattle.domino_names.specs.declared.infos.ArrayInfo.{ArrayInfo}
 use Rattle.domino_check.specs.declared.numbered.CheckedExpr.{CheckedExpr}
-use Rattle.domino_check.specs.Infos.{infos_of, array_of}
+use Rattle.domino_names.specs.Infos.{infos_of, array_of}
 use Rattle.domino_check.specs.Numbering.{accesses}
 use Rattle.domino_check.specs.Indexes.{index_of}
 use Rattle.domino_check.specs.Accepted.{AreSized}
 use Rattle.domino_check.specs.NumberedMeaning.{Indexing, indexing, numbered_arrays, plain_value, named_place, place, numbered_step, numbered_choice, numbered_exec, executed_from}
 use Rattle.domino_check.proofs.MeaningLemmas.{step-If, step-Else}
 use Rattle.domino_eval.specs.Parts.{first_words, state, entered, last_does, Held, executed}
-use Rattle.domino_check.proofs.CheckedLemmas.{infos_are, length-infos}
+use Rattle.domino_names.proofs.InfoLemmas.{infos_are, length-infos}
 
 next_word : (words : List ℤ) (i : ℕ) (z : ℤ) → i < length words → z ≡ word_at words i → slice_set (first_words (take i words)) i z ≡ first_words (take (i + 1) words)
 next_word [] i z within is = absurd (omega arith)

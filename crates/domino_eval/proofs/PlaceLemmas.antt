@@ -20,7 +20,7 @@ use Rattle.domino_check.specs.declared.numbered.CheckedStmt.{CheckedStmt}
 use Rattle.domino_check.specs.declared.numbered.CheckedStmt.TheVariants as s
 use Rattle.domino_check.specs.declared.numbered.CheckedArm.{CheckedArm}
 use Rattle.domino_check.specs.Numbering.{numbered_body}
-use Rattle.domino_check.specs.Infos.{infos_of}
+use Rattle.domino_names.specs.Infos.{infos_of}
 use Rattle.domino_check.specs.NumberedMeaning.{Indexing, indexing, numbered_arrays, plain_meaning, plain_value, named_place, place, numbered_step, numbered_choice, numbered_exec}
 use Rattle.domino_check.specs.Sites.{Site, Assigned, to_field, to_cell, nothing, sites_of, touches, is_touched, mentioning_field, mentions, index_mentions, Moves, NoIndexMoves, program_indexes}
 use Rattle.domino_check.specs.Touches.{field_of, touch_of, joined_touches, stmt_touches, arm_touches, touches_of}

@@ -8,8 +8,8 @@ use Rattle.domino_tree.specs.declared.program.Program.{Program}
 use Rattle.domino_syntax.specs.declared.fault.TextFault.{TextFault}
 use Rattle.domino_syntax.specs.declared.fault.TextFault.TheVariants as text_fault
 use Rattle.domino_syntax.specs.ProgramText.{IsProgramText, Refuses as RefusesText}
-use Rattle.domino_check.specs.declared.fault.CheckFault.{CheckFault}
-use Rattle.domino_check.specs.declared.fault.CheckFault.TheVariants as check_fault
+use Rattle.domino_names.specs.declared.fault.CheckFault.{CheckFault}
+use Rattle.domino_names.specs.declared.fault.CheckFault.TheVariants as check_fault
 use Rattle.domino_check.specs.Refused.{Refused}
 use Rattle.switch_runner.specs.declared.outside.StoreFault.{StoreFault}
 use Rattle.switch_runner.specs.declared.outside.StoreFault.TheVariants as store

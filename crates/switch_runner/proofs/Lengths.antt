@@ -7,9 +7,9 @@ use Rattle.domino_tree.specs.Value.{Names, Array, names_of}
 use Rattle.domino_tree.specs.Execution.{State, exec}
 use Rattle.domino_tree.specs.Sequential.{start_cells, untouched, run_from, one}
 use Rattle.domino_tree.proofs.ShapeLemmas.{lengths, exec_keeps}
-use Rattle.domino_check.specs.declared.numbered.ArrayInfo.{ArrayInfo}
-use Rattle.domino_check.specs.Infos.{infos_of, array_of}
-use Rattle.domino_check.proofs.CheckedLemmas.{infos_are}
+use Rattle.domino_names.specs.declared.infos.ArrayInfo.{ArrayInfo}
+use Rattle.domino_names.specs.Infos.{infos_of, array_of}
+use Rattle.domino_names.proofs.InfoLemmas.{infos_are}
 use Rattle.switch_runner.specs.Report.{HasCells}
 
 module _ (names : Names) where

@@ -10,9 +10,9 @@ use Rattle.capture_io.specs.Header.{field, header, start_of, headers}
 use Rattle.capture_io.specs.Rows.{rows}
 use Rattle.domino_tree.specs.declared.program.Program.{Program}
 use Rattle.domino_tree.specs.Sequential.{one}
-use Rattle.domino_check.specs.declared.numbered.ArrayInfo.{ArrayInfo}
-use Rattle.domino_check.specs.Infos.{infos_of, array_of}
-use Rattle.domino_check.proofs.CheckedLemmas.{infos_are}
+use Rattle.domino_names.specs.declared.infos.ArrayInfo.{ArrayInfo}
+use Rattle.domino_names.specs.Infos.{infos_of, array_of}
+use Rattle.domino_names.proofs.InfoLemmas.{infos_are}
 use Rattle.domino_tree.specs.Value.{Array, names_of, cell_counts}
 use Rattle.switch_runner.specs.Causes.{IsAccepted}
 use Rattle.switch_runner.specs.Report.{label, AreDeclared, HasCells, run_text, report}

@@ -1,7 +1,7 @@
 pub use Rattle.domino_tree.specs.Sequential
 pub use Rattle.domino_syntax.specs.ProgramText
 pub use Rattle.domino_check.specs.Refused
-pub use Rattle.domino_check.specs.Infos
+pub use Rattle.domino_names.specs.Infos
 pub use Rattle.domino_eval.specs.Parts
 pub use Rattle.capture_io.specs.ClassicCapture
 pub use Rattle.capture_io.specs.Header

@@ -6,10 +6,10 @@ use Rattle.capture_io.specs.declared.fault.CaptureFault.{CaptureFault}
 use Rattle.capture_io.specs.declared.fault.CaptureFault.TheVariants.{TooLong, ShortHeader, PcapNg, BadMagic, Version, LinkType, LongRecord, Truncated, TooMany, NoMemory}
 use Rattle.domino_syntax.specs.declared.fault.TextFault.{TextFault}
 use Rattle.domino_syntax.specs.declared.fault.TextFault.TheVariants as text
-use Rattle.domino_check.specs.declared.fault.What.{What}
-use Rattle.domino_check.specs.declared.fault.What.TheVariants as what
-use Rattle.domino_check.specs.declared.fault.CheckFault.{CheckFault}
-use Rattle.domino_check.specs.declared.fault.CheckFault.TheVariants as check
+use Rattle.domino_names.specs.declared.fault.What.{What}
+use Rattle.domino_names.specs.declared.fault.What.TheVariants as what
+use Rattle.domino_names.specs.declared.fault.CheckFault.{CheckFault}
+use Rattle.domino_names.specs.declared.fault.CheckFault.TheVariants as check
 use Rattle.switch_runner.specs.declared.status.ProgramFault.{ProgramFault}
 use Rattle.switch_runner.specs.declared.status.ProgramFault.TheVariants as program
 

@@ -7,8 +7,8 @@ use Rattle.capture_io.specs.Rows.{rows}
 use Rattle.domino_tree.specs.declared.program.Program.{Program}
 use Rattle.domino_tree.specs.Value.{names_of, cell_counts}
 use Rattle.domino_tree.specs.Sequential.{one}
-use Rattle.domino_check.specs.declared.numbered.ArrayInfo.{ArrayInfo}
-use Rattle.domino_check.specs.Infos.{infos_of}
+use Rattle.domino_names.specs.declared.infos.ArrayInfo.{ArrayInfo}
+use Rattle.domino_names.specs.Infos.{infos_of}
 
 -- ---- packets
 

@@ -1,6 +1,6 @@
 use Rattle.std.proofs.Common.{inl, inr, sym, ◌∙◌, subst}
 use Rattle.std.proofs.lemmas.Result.{err_from_is_err_and, IfErr-weaker}
-use Rattle.domino_check.specs.Refused.{RefusedNames, RefusedSizes}
+use Rattle.domino_names.specs.NamesRefused.{RefusedNames, RefusedSizes}
 use Rattle.domino_check.proofs.PartsLemmas.{numbers_of}
 use Rattle.domino_check.proofs.all_checks.checked_parts.Goals as goal
 

@@ -1,5 +1,5 @@
 use Rattle.std.proofs.Common.{ap, ◌∙◌}
-use Rattle.domino_check.specs.declared.fault.CheckFault.TheVariants as fault
+use Rattle.domino_names.specs.declared.fault.CheckFault.TheVariants as fault
 use Rattle.domino_check.proofs.IndexLemmas.{name_at}
 use Rattle.domino_check.proofs.indexes.differs.Goals as goal
 

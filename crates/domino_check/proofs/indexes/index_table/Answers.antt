@@ -3,8 +3,8 @@ use Rattle.std.proofs.lemmas.List.{map-id}
 use Rattle.std.proofs.lemmas.Iterator.Consumers.{YieldsList-turn, YieldsList-so_far, YieldsList-end}
 use Rattle.std.proofs.lemmas.Iterator.Adapters.{YieldsList-from_vec}
 use Rattle.std.proofs.lemmas.Bool.{false≢true}
-use Rattle.domino_check.specs.Infos.{array_of}
-use Rattle.domino_check.specs.First.{NoFault}
+use Rattle.domino_names.specs.Infos.{array_of}
+use Rattle.domino_names.specs.First.{NoFault}
 use Rattle.domino_check.specs.Numbering.{Access}
 use Rattle.domino_check.specs.Indexes.{IndexDiffersAt, AreIndexes, AllKeep, index_of, indexes_of}
 use Rattle.domino_check.proofs.IndexLemmas.{below_at, plain_from_fine, indexes_more, fine_more, keep_more, indexes_are, is_other, differs_first}

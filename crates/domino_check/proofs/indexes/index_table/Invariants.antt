@@ -1,7 +1,7 @@
 -- nothing is amiss so far, and the table has the indexes so far
 use Rattle.std.proofs.Common.{length, map}
-use Rattle.domino_check.specs.First.{NoFault}
-use Rattle.domino_check.specs.Infos.{array_of}
+use Rattle.domino_names.specs.First.{NoFault}
+use Rattle.domino_names.specs.Infos.{array_of}
 use Rattle.domino_check.specs.Indexes.{IndexDiffersAt, AreIndexes, AllKeep, index_of}
 use Rattle.domino_check.proofs.indexes.index_table.Given as goal
 

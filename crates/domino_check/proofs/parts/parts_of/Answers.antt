@@ -1,6 +1,6 @@
 use Rattle.std.proofs.Common.{◌++◌, ◌≤◌, length, inl, inr, sym, ap, subst, ◌∙◌}
 use Rattle.std.proofs.lemmas.Result.{err_from_is_err_and}
-use Rattle.domino_check.specs.First.{FirstFault, NoFault}
+use Rattle.domino_names.specs.First.{FirstFault, NoFault}
 use Rattle.domino_check.specs.Numbering.{accesses}
 use Rattle.domino_check.specs.Indexes.{IndexDiffersAt, FirstIndexDiffers}
 use Rattle.domino_check.specs.Numbering.{numbered_body}

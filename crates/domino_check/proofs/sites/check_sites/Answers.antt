@@ -1,8 +1,8 @@
 use Rattle.std.proofs.Common.{rules, arith, ◌≡◌, Some, None, replicate, false, List, ◌++◌, ◌∷◌, [], length, map, take, drop, suc, sym, ap, subst, ◌∙◌}
 use Rattle.std.proofs.lemmas.List.{take_all, length-map}
 use Rattle.mp5_words.specs.Cells.{touching}
-use Rattle.domino_check.specs.First.{FirstFault}
-use Rattle.domino_check.specs.Infos.{array_of}
+use Rattle.domino_names.specs.First.{FirstFault}
+use Rattle.domino_names.specs.Infos.{array_of}
 use Rattle.domino_check.specs.Sites.{Site, IndexMovesAt, NoneMoves}
 use Rattle.domino_check.specs.Touches.{touch_of, MovedBy}
 use Rattle.domino_check.proofs.SiteLemmas.{touched_by, site_at, marks_more, marks_are, first_moved, none_moved, none_push, none_at_start, moves_first}

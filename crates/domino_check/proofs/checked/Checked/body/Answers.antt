@@ -9,7 +9,7 @@ use Rattle.domino_check.proofs.BodyCountLemmas.{count_agrees}
 use Rattle.domino_check.specs.Refused.{Passes}
 use Rattle.domino_check.specs.Accepted.{Keeps}
 use Rattle.domino_check.proofs.Agreement.{agreement}
-use Rattle.domino_check.proofs.CheckedLemmas.{length-infos}
+use Rattle.domino_names.proofs.InfoLemmas.{length-infos}
 use Rattle.domino_check.proofs.TouchedLemmas.{touches_by_sites}
 use Rattle.domino_check.proofs.ReachedLemmas.{touches_reached}
 use Rattle.domino_check.proofs.FitLemmas.{body_is_fit}

@@ -1,6 +1,0 @@
--- the copies so far
-use Rattle.std.proofs.Common.{◌≡◌, take}
-use Rattle.domino_check.proofs.copies.copy_names.Given as goal
-
-abbrev pub invariant-loop-name : goal.invariant-loop-name
-invariant-loop-name l = l.copies.items ≡ take l.name-index l.names

@@ -1,7 +1,0 @@
--- the arrays of the items so far
-use Rattle.std.proofs.Common.{◌≡◌, ◌++◌, take}
-use Rattle.domino_check.specs.Symbols.{infos_in}
-use Rattle.domino_check.proofs.infos.push_infos.Given as goal
-
-abbrev pub invariant-loop-item : goal.invariant-loop-item
-invariant-loop-item l = l.out ≡ l.initial.out ++ infos_in l.symbols (take l.item-index l.items)

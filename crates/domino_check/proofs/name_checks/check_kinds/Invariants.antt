@@ -1,9 +1,0 @@
--- nothing is amiss at the uses so far
-use Rattle.std.proofs.Common.{take}
-use Rattle.domino_check.specs.First.{NoFault}
-use Rattle.domino_check.specs.Checks.{WrongKindAt}
-use Rattle.domino_check.specs.Symbols.{kinds_at}
-use Rattle.domino_check.proofs.name_checks.check_kinds.Given as goal
-
-abbrev pub invariant-loop-used : goal.invariant-loop-used
-invariant-loop-used l = NoFault (WrongKindAt (kinds_at l.symbols)) (take l.used-index l.uses)

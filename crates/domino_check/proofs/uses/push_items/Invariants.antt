@@ -1,7 +1,0 @@
--- the uses in the items so far
-use Rattle.std.proofs.Common.{◌≡◌, ◌++◌, flat_map, take}
-use Rattle.domino_check.specs.Uses.{item_uses}
-use Rattle.domino_check.proofs.uses.push_items.Given as goal
-
-abbrev pub invariant-loop-item : goal.invariant-loop-item
-invariant-loop-item l = l.out.items ≡ l.initial.out.items ++ flat_map item_uses (take l.item-index l.items)

@@ -1,0 +1,10 @@
+pub mod CountLemmas
+pub mod FirstLemmas
+pub mod TableLemmas
+pub mod DeclaredLemmas
+pub mod UseLemmas
+pub mod InfoLemmas
+pub mod ScopeLemmas
+pub mod SymbolLemmas
+pub mod OnceLemmas
+pub mod AssemblyLemmas

@@ -1,0 +1,6 @@
+-- the copies so far
+use Rattle.std.proofs.Common.{◌≡◌, take}
+use Rattle.domino_names.proofs.copies.copy_names.Given as goal
+
+abbrev pub invariant-loop-name : goal.invariant-loop-name
+invariant-loop-name l = l.copies.items ≡ take l.name-index l.names

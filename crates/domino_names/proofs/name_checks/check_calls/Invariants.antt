@@ -1,0 +1,8 @@
+-- nothing is amiss at the uses so far
+use Rattle.std.proofs.Common.{take}
+use Rattle.domino_names.specs.First.{NoFault}
+use Rattle.domino_names.specs.Checks.{ArityAt}
+use Rattle.domino_names.proofs.name_checks.check_calls.Given as goal
+
+abbrev pub invariant-loop-used : goal.invariant-loop-used
+invariant-loop-used l = NoFault ArityAt (take l.used-index l.uses)
