@@ -1,6 +1,7 @@
 -- The parser of expressions at each level, from that one level below.
-use Rattle.std.proofs.Common.{◌≡◌, ◌<◌, ◌-◌, ℕ, suc, nat_eq, if◌then◌else◌, List, Ok, Err, ap, ◌∙◌, arith}
+use Rattle.std.proofs.Common.{◌≡◌, ◌<◌, ◌≤◌, ◌-◌, ℕ, zero, suc, nat_eq, if◌then◌else◌, List, Result, Ok, Err, refl, ap, sym, ◌∙◌, arith, inl, inr}
 use Rattle.std.proofs.lemmas.Bool.{ne_eqb}
+use Rattle.std.proofs.lemmas.Bool.Decides.{eqb_tells}
 use Rattle.domino_tree.specs.declared.token.Token.{Token}
 use Rattle.domino_tree.specs.declared.expr.Expr.{Expr}
 use Rattle.domino_syntax.specs.Parsers.{Parser, and_then}
@@ -15,24 +16,31 @@ unfolding expression_at
 expression_next depth inner below is_suc = ap (λ n. expression_at n below) is_suc
 
 module _ (within : ℕ → Parser Expr) where
-  pub tier_lowest : (below : ℕ) → below ≡ 0 → tier within below ≡ operand (within 0) (within loosest)
+  -- an expression with no level below goes on with what is behind it at the first level
+  pub tier_start : (tokens : List Token) (o : Result (Expr × List Token) (List Token)) → operand (within 0) (within loosest) tokens ≡ o → tier within 0 tokens ≡ o
   unfolding tier
-  tier_lowest below is_zero = ap (tier within) is_zero
+  tier_start tokens o read = read
 
-  module _ (below lower : ℕ) (is_suc : below ≡ suc lower) (tokens rest : List Token) where
-    tier_next : tier within below tokens ≡ and_then (tier within lower tokens) (behind_level within (tier within lower) lower)
-    unfolding tier
-    tier_next = ap (λ n. tier within n tokens) is_suc
+  tier_next : (below : ℕ) (tokens : List Token) → tier within (suc below) tokens ≡ and_then (tier within below tokens) (behind_level within (tier within below) below)
+  unfolding tier
+  tier_next below tokens = refl
 
-    pub tier_refuses : tier within lower tokens ≡ Err rest → tier within below tokens ≡ Err rest
-    tier_refuses read = tier_next ∙ ap (λ o. and_then o (behind_level within (tier within lower) lower)) read
+  -- what is read behind an expression of one level is read at the next
+  pub tier_goes_on : (below : ℕ) (tokens rest : List Token) (left : Expr) → tier within below tokens ≡ Ok (left, rest) → tier within (suc below) tokens ≡ behind_level within (tier within below) below left rest
+  tier_goes_on below tokens rest left read =
+      tier_next below tokens ∙ ap (λ o. and_then o (behind_level within (tier within below) below)) read
 
-    module _ (left : Expr) (read : tier within lower tokens ≡ Ok (left, rest)) where
-      tier_goes_on : tier within below tokens ≡ behind_level within (tier within lower) lower left rest
-      tier_goes_on = tier_next ∙ ap (λ o. and_then o (behind_level within (tier within lower) lower)) read
+  -- what a level refuses, the levels above refuse
+  pub tier_refuses : (below above : ℕ) (tokens rest : List Token) → below ≤ above → tier within below tokens ≡ Err rest → tier within above tokens ≡ Err rest
+  tier_refuses below zero tokens rest le read = ap (λ n. tier within n tokens) (omega (arith, le)) ∙ read
+  tier_refuses below (suc above) tokens rest le read =
+      elim (eqb_tells below (suc above)) [
+        | inl t ↦ ap (λ n. tier within n tokens) (sym t.1) ∙ read
+        | inr t ↦ tier_next above tokens ∙ ap (λ o. and_then o (behind_level within (tier within above) above)) (tier_refuses below above tokens rest (let other = t.1 in omega (arith, le)) read)
+      ]
 
-      pub tier_pick : lower ≡ 10 → tier within below tokens ≡ pick (within loosest) left rest
-      tier_pick is = tier_goes_on ∙ ap (λ b. (if b then pick (within loosest) left else chain (tier within lower) (10 - lower) left) rest) (ap (λ n. nat_eq n 10) is)
+  pub behind_pick : (below : ℕ) (left : Expr) (rest : List Token) → below ≡ 10 → behind_level within (tier within below) below left rest ≡ pick (within loosest) left rest
+  behind_pick below left rest is = ap (λ b. (if b then pick (within loosest) left else chain (tier within below) (10 - below) left) rest) (ap (λ n. nat_eq n 10) is)
 
-      pub tier_chain : lower < 10 → tier within below tokens ≡ chain (tier within lower) (10 - lower) left rest
-      tier_chain less = tier_goes_on ∙ ap (λ b. (if b then pick (within loosest) left else chain (tier within lower) (10 - lower) left) rest) (ne_eqb lower 10 (λ e. omega (arith, e)))
+  pub behind_chain : (below : ℕ) (left : Expr) (rest : List Token) → below < 10 → behind_level within (tier within below) below left rest ≡ chain (tier within below) (10 - below) left rest
+  behind_chain below left rest less = ap (λ b. (if b then pick (within loosest) left else chain (tier within below) (10 - below) left) rest) (ne_eqb below 10 (λ e. omega (arith, e)))

@@ -1,7 +1,7 @@
 -- The parser of expressions as functions on token lists. A level of operators is read by the levels below it:
 -- the lowest, with none below, are the operators before an expression and the forms without operators; ten
 -- levels of operators between two are above it, and `c ? a : b` above all.
-use Rattle.std.specs.Prelude.{ℕ, zero, suc, ◌-◌, if◌then◌else◌, nat_eq, List, [], Option, Some, None, Err}
+use Rattle.std.specs.Prelude.{ℕ, zero, suc, ◌-◌, Bool, false, if◌then◌else◌, nat_eq, List, [], Option, Some, None, Err}
 use Rattle.mp5_words.specs.declared.op.Op1.{Op1}
 use Rattle.mp5_words.specs.declared.op.Op2.{Op2}
 use Rattle.domino_tree.specs.declared.token.Token.{Token}
@@ -35,6 +35,27 @@ a_binary k (token.Keyword l) = None
 a_binary k token.Define = None
 a_binary k (token.Number n) = None
 a_binary k (token.Sign s) = of_level k (operator_between s)
+
+-- whether a level, where there is one, is this one
+abbrev pub is_level : ℕ → Option ℕ → Bool
+is_level k None = false
+is_level k (Some l) = nat_eq l k
+
+-- the level of the operator that the next token writes between two expressions
+abbrev pub level_of : Option Op2 → Option ℕ
+level_of None = None
+level_of (Some op) = Some (level op)
+
+abbrev pub level_at : Token → Option ℕ
+level_at (token.Name w) = None
+level_at (token.Keyword l) = None
+level_at token.Define = None
+level_at (token.Number n) = None
+level_at (token.Sign s) = level_of (operator_between s)
+
+abbrev pub next_level : Option Token → Option ℕ
+next_level None = None
+next_level (Some t) = level_at t
 
 unfoldable pub unary : Parser Op1
 unary = one a_unary

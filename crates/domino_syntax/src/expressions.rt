@@ -213,21 +213,39 @@ fn pick(alloc: Global, reader: &mut Reader<'_>, depth: usize, cond: Expr) -> Res
     Ok(pick_of(alloc, cond, then, other)?)
 }
 
-/// An expression with so many precedence levels below its own.
+/// What stands behind an expression with so many precedence levels below its own, where it
+/// may stand one level above.
+#[cycle(expression)]
+fn behind_level(
+    alloc: Global,
+    reader: &mut Reader<'_>,
+    depth: usize,
+    below: usize,
+    left: Expr,
+) -> Result<Expr, Stop>
+    requires { below ≤ 10 }
+    ensures { Reads (spec.behind_level (spec.expression_at depth)
+        (spec.tier (spec.expression_at depth) below) below left reader.old) result reader.new }
+{
+    if below == LOOSEST - 1 {
+        pick(alloc, reader, depth, left)
+    } else {
+        chain(alloc, reader, depth, below, left)
+    }
+}
+
+/// An expression with so many precedence levels below its own: what the lowest level reads,
+/// and what stands behind it at each level above.
 #[cycle(expression)]
 fn tier(alloc: Global, reader: &mut Reader<'_>, depth: usize, below: usize) -> Result<Expr, Stop>
     requires { below ≤ 11 }
     ensures { Reads (spec.tier (spec.expression_at depth) below reader.old) result reader.new }
 {
-    if below == 0 {
-        return operand(alloc, reader, depth);
+    let mut left = operand(alloc, reader, depth)?;
+    for level in 0..below {
+        left = behind_level(alloc, reader, depth, level, left)?;
     }
-    let left = tier(alloc, reader, depth, below - 1)?;
-    if below == LOOSEST {
-        pick(alloc, reader, depth, left)
-    } else {
-        chain(alloc, reader, depth, below - 1, left)
-    }
+    Ok(left)
 }
 
 /// An expression with so many precedence levels below its own, and with fewer than `depth` forms within forms.

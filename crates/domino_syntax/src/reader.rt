@@ -6,7 +6,7 @@ ghost use Rattle.domino_syntax.specs.Parsers as spec;
 ghost use Rattle.domino_syntax.specs.Parsers.{Reads, first};
 ghost use Rattle.domino_syntax.specs.ReadingExpressions as expressions;
 
-use crate::operators::operator_of_level;
+use crate::operators::{level_of_sign, operator_of_level};
 use domino_tree::{Keyword, Sign, Token, operator_before};
 use mp5_words::{Name, Op1, Op2};
 use std::alloc::{AllocError, AllocFailed, Global};
@@ -45,15 +45,30 @@ impl<T: Drop> From<AllocFailed<T>> for Stop {
 #[derive(Drop)]
 pub(crate) struct Reader<'a> {
     rest: &'a [Token],
+    /// The precedence level of the operator between two expressions that comes next, if one does.
+    level: Option<usize>,
 }
 
 impl<'a> Model for Reader<'a> {
-    ghost use Rattle.std.specs.Prelude.{List};
+    ghost use Rattle.std.specs.Prelude.{◌≡◌, List};
     ghost use Rattle.domino_tree.specs.declared.token.Token.{Token};
+    ghost use Rattle.domino_syntax.specs.Parsers.{first};
+    ghost use Rattle.domino_syntax.specs.ReadingExpressions.{next_level};
 
     ghost Value = { List Token };
 
     ghost view = { λ reader. reader.rest.now };
+    ghost invariant = { λ reader. reader.level ≡ next_level (first reader.rest.now) };
+}
+
+/// The precedence level of the operator between two expressions that comes first, if one does.
+fn level_of_first(tokens: &[Token]) -> Option<usize>
+    ensures { result ≡ expressions.next_level (first tokens.now) }
+{
+    match tokens {
+        [Token::Sign(next), ..] => level_of_sign(*next),
+        _ => None,
+    }
 }
 
 /// A copy of a name.
@@ -79,7 +94,10 @@ impl<'a> Reader<'a> {
     pub fn new(tokens: &'a [Token]) -> Reader<'a>
         ensures { result ≡ tokens.now }
     {
-        Reader { rest: tokens }
+        Reader {
+            rest: tokens,
+            level: level_of_first(tokens),
+        }
     }
 
     /// How many tokens are left.
@@ -148,10 +166,18 @@ impl<'a> Reader<'a> {
     pub fn sees_binary(&self, level: usize) -> bool
         ensures { result ≡ spec.sees (expressions.a_binary level) (first self.now) }
     {
-        match self.rest {
-            [Token::Sign(next), ..] => operator_of_level(level, *next).is_some(),
-            _ => false,
+        match self.level {
+            Some(next) => next == level,
+            None => false,
         }
+    }
+
+    /// Goes on to these tokens.
+    fn go_to(&mut self, rest: &'a [Token])
+        ensures { self.new ≡ rest.now }
+    {
+        self.rest = rest;
+        self.level = level_of_first(rest);
     }
 
     #[tactic(auto, unfolding(crate::specs::Parsers::sign))]
@@ -160,7 +186,7 @@ impl<'a> Reader<'a> {
     {
         match self.rest {
             [Token::Sign(next), rest @ ..] if is_same_sign(*next, sign) => {
-                self.rest = rest;
+                self.go_to(rest);
                 Ok(())
             }
             _ => Err(Stop::Syntax),
@@ -173,7 +199,7 @@ impl<'a> Reader<'a> {
     {
         match self.rest {
             [Token::Keyword(next), rest @ ..] if is_same_keyword(*next, keyword) => {
-                self.rest = rest;
+                self.go_to(rest);
                 Ok(())
             }
             _ => Err(Stop::Syntax),
@@ -186,7 +212,7 @@ impl<'a> Reader<'a> {
     {
         match self.rest {
             [Token::Define, rest @ ..] => {
-                self.rest = rest;
+                self.go_to(rest);
                 Ok(())
             }
             _ => Err(Stop::Syntax),
@@ -200,7 +226,7 @@ impl<'a> Reader<'a> {
         match self.rest {
             [Token::Name(name), rest @ ..] => {
                 let name = copied(alloc, name)?;
-                self.rest = rest;
+                self.go_to(rest);
                 Ok(name)
             }
             _ => Err(Stop::Syntax),
@@ -213,7 +239,7 @@ impl<'a> Reader<'a> {
     {
         match self.rest {
             [Token::Number(number), rest @ ..] => {
-                self.rest = rest;
+                self.go_to(rest);
                 Ok(*number)
             }
             _ => Err(Stop::Syntax),
@@ -228,7 +254,7 @@ impl<'a> Reader<'a> {
         match self.rest {
             [Token::Sign(next), rest @ ..] => match operator_before(*next) {
                 Some(op) => {
-                    self.rest = rest;
+                    self.go_to(rest);
                     Ok(op)
                 }
                 None => Err(Stop::Syntax),
@@ -245,7 +271,7 @@ impl<'a> Reader<'a> {
         match self.rest {
             [Token::Sign(next), rest @ ..] => match operator_of_level(level, *next) {
                 Some(op) => {
-                    self.rest = rest;
+                    self.go_to(rest);
                     Ok(op)
                 }
                 None => Err(Stop::Syntax),

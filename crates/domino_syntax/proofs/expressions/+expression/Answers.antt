@@ -1,10 +1,10 @@
-use Rattle.std.proofs.Common.{◌≡◌, ◌-◌, ◌+◌, suc, true, false, sym, subst, ◌∙◌, arith}
+use Rattle.std.proofs.Common.{◌≡◌, ◌-◌, ◌+◌, suc, true, false, Ok, Err, sym, subst, ◌∙◌, arith}
 use Rattle.domino_tree.specs.declared.token.Sign.TheVariants.{Comma}
 use Rattle.domino_tree.specs.declared.expr.Expr.{Expr}
 use Rattle.domino_syntax.specs.Parsers.{Parser, Reads, first, sees, sees_sign, adding}
 use Rattle.domino_syntax.specs.ReadingExpressions as spec
 use Rattle.domino_syntax.proofs.Turns.{repeat_turn, repeat_refuses, repeat_ends, repeat_over, all_turn, all_refuses, passes_on}
-use Rattle.domino_syntax.proofs.Tiers.{expression_none, expression_next, tier_lowest, tier_refuses, tier_pick, tier_chain}
+use Rattle.domino_syntax.proofs.Tiers.{expression_none, expression_next, tier_start, tier_goes_on, tier_refuses, behind_pick, behind_chain}
 use Rattle.domino_syntax.proofs.expressions.+expression.Goals as goal
 
 -- ---- arguments
@@ -84,23 +84,31 @@ expression_at-returns t c =
     let is_suc : c.args.depth ≡ suc (c.args.depth - 1) = omega arith in
     subst (λ (p : Parser Expr). Reads (p c.args.reader.now) c.tier.result c.tier.new.reader) (sym (expression_next c.args.depth (c.args.depth - 1) c.args.below is_suc)) c.tier.ensures
 
-pub tier-returns-then-below-eq0 : goal.tier-returns-then-below-eq0
-tier-returns-then-below-eq0 t c =
-    subst (λ (p : Parser Expr). Reads (p c.args.reader.now) c.operand.result c.operand.new.reader) (sym (tier_lowest (spec.expression_at c.args.depth) c.args.below c.if-below-eq0.true)) c.operand.ensures
+pub behind_level-returns-then-below : goal.behind_level-returns-then-below
+behind_level-returns-then-below t c =
+    subst (λ o. Reads o c.pick.result c.pick.new.reader) (sym (behind_pick (spec.expression_at c.args.depth) c.args.below c.args.left c.args.reader.now (omega arith))) c.pick.ensures
+
+pub behind_level-returns-else-below : goal.behind_level-returns-else-below
+behind_level-returns-else-below t c =
+    subst (λ o. Reads o c.chain.result c.chain.new.reader) (sym (behind_chain (spec.expression_at c.args.depth) c.args.below c.args.left c.args.reader.now (omega arith))) c.chain.ensures
 
 pub tier-returns-in_err-left : goal.tier-returns-in_err-left
 tier-returns-in_err-left t c =
-    let is_suc : c.args.below ≡ suc (c.args.below - 1) = omega arith in
-    passes_on _ _ c.in_err-left.field-0.0 _ _ c.from_residual.ensures.1 (tier_refuses (spec.expression_at c.args.depth) c.args.below (c.args.below - 1) is_suc c.args.reader.now c.tier.new.reader) c.in_err-left.ensures
+    let within = spec.expression_at c.args.depth in
+    passes_on _ _ c.in_err-left.field-0.0 _ _ c.from_residual.ensures.1 (λ e. tier_refuses within 0 c.args.below c.args.reader.now c.operand.new.reader (omega arith) (tier_start within c.args.reader.now (Err c.operand.new.reader) e)) c.in_err-left.ensures
 
-pub tier-returns-then-below-eq-LOOSEST : goal.tier-returns-then-below-eq-LOOSEST
-tier-returns-then-below-eq-LOOSEST t c =
-    let is_suc : c.args.below ≡ suc (c.args.below - 1) = omega arith in
-    let same = tier_pick (spec.expression_at c.args.depth) c.args.below (c.args.below - 1) is_suc c.args.reader.now c.tier.new.reader c.in_ok-left.left c.in_ok-left.ensures (omega arith) in
-    subst (λ o. Reads o c.pick.result c.pick.new.reader) (sym same) c.pick.ensures
+pub tier-loop-level-init : goal.tier-loop-level-init
+tier-loop-level-init t c =
+    tier_start (spec.expression_at c.args.depth) c.args.reader.now _ c.in_ok-left.ensures
 
-pub tier-returns-else-below-eq-LOOSEST : goal.tier-returns-else-below-eq-LOOSEST
-tier-returns-else-below-eq-LOOSEST t c =
-    let is_suc : c.args.below ≡ suc (c.args.below - 1) = omega arith in
-    let same = tier_chain (spec.expression_at c.args.depth) c.args.below (c.args.below - 1) is_suc c.args.reader.now c.tier.new.reader c.in_ok-left.left c.in_ok-left.ensures (omega arith) in
-    subst (λ o. Reads o c.chain.result c.chain.new.reader) (sym same) c.chain.ensures
+pub tier-returns-in_err-left-2 : goal.tier-returns-in_err-left-2
+tier-returns-in_err-left-2 t c =
+    let within = spec.expression_at c.args.depth in
+    let goes_on = tier_goes_on within c.loop-level.level c.args.reader.now c.loop-level.reader c.loop-level.left c.loop-level.invariant in
+    passes_on _ _ c.in_err-left-2.field-0.0 _ _ c.from_residual-in_err-left-2.ensures.1 (λ e. tier_refuses within (suc c.loop-level.level) c.args.below c.args.reader.now c.behind_level.new.reader (omega arith) (goes_on ∙ e)) c.in_err-left-2.ensures
+
+pub tier-loop-level-preserved : goal.tier-loop-level-preserved
+tier-loop-level-preserved t c =
+    let within = spec.expression_at c.args.depth in
+    let goes_on = tier_goes_on within c.loop-level.level c.args.reader.now c.loop-level.reader c.loop-level.left c.loop-level.invariant in
+    subst (λ n. spec.tier within n c.args.reader.now ≡ Ok (c.in_ok-left-2.left, c.behind_level.new.reader)) (omega arith) (goes_on ∙ c.in_ok-left-2.ensures)
