@@ -1,0 +1,5 @@
+//! Flat code as a graph: each instruction with the array that it loads, copies or stores, and with the instructions
+//! that it uses. `reached` tells for each instruction which arrays it depends on, directly or through others; the
+//! passes behind flat code begin from it.
+#![tactic(auto)]
+
