@@ -3,3 +3,12 @@
 //! passes behind flat code begin from it.
 #![tactic(auto)]
 
+mod depended;
+mod graph;
+mod marks;
+mod node;
+mod places;
+mod rows;
+
+pub use depended::reached;
+pub use marks::Reached;
