@@ -3,3 +3,4 @@ pub mod Ordered
 pub mod RowLemmas
 pub mod MarkLemmas
 pub mod NodeLemmas
+pub mod HandLemmas

@@ -14,26 +14,26 @@ use Rattle.flat_graph.specs.Passes.{any_has, shows_of, Shows, needs_by, IsNeeded
 
 -- ---- tests and what they say
 
-or_cases : (x y : Bool) → (x || y) ≡ true → (x ≡ true) ⊎ (y ≡ true)
+pub or_cases : (x y : Bool) → (x || y) ≡ true → (x ≡ true) ⊎ (y ≡ true)
 or_cases true y h = inl refl
 or_cases false y h = inr h
 
-or_left : (x y : Bool) → x ≡ true → (x || y) ≡ true
+pub or_left : (x y : Bool) → x ≡ true → (x || y) ≡ true
 or_left x y h = ap (λ b. b || y) h
 
-or_right : (x y : Bool) → y ≡ true → (x || y) ≡ true
+pub or_right : (x y : Bool) → y ≡ true → (x || y) ≡ true
 or_right true y h = refl
 or_right false y h = h
 
-and_both : (x y : Bool) → x ≡ true → y ≡ true → (x && y) ≡ true
+pub and_both : (x y : Bool) → x ≡ true → y ≡ true → (x && y) ≡ true
 and_both true y h k = k
 and_both false y h k = h
 
-and_cases : (x y : Bool) → (x && y) ≡ true → (x ≡ true) × (y ≡ true)
+pub and_cases : (x y : Bool) → (x && y) ≡ true → (x ≡ true) × (y ≡ true)
 and_cases true y h = (refl, h)
 and_cases false y h = (h, cc)
 
-any_member : (p : ℕ → Bool) (xs : List ℕ) → list_any p xs ≡ true → (j : ℕ) × Member j xs × (p j ≡ true)
+pub any_member : (p : ℕ → Bool) (xs : List ℕ) → list_any p xs ≡ true → (j : ℕ) × Member j xs × (p j ≡ true)
 any_member p [] e = absurd cc
 any_member p (x ∷ xs) e = elim (or_cases (p x) (list_any p xs) e) [
   | inl h ↦ (x, inl refl, h)
@@ -114,7 +114,7 @@ module _ (nodes : List Node) (ordered : IsOrdered nodes) (rows : List (List Bool
   gathers i j a w e m u = (u.0, shows_at i a None w e u.0 ∙ member_any (λ k. has (row rows k) a) (node_at nodes i).uses j m u.1)
 
   module _ (table closed : List (List Bool)) (needed : IsNeeded nodes rows table) (closes : Closes table closed) where
-    abbrev Needed : ℕ → ℕ → Type 0
+    abbrev pub Needed : ℕ → ℕ → Type 0
     Needed = uses.Needs nodes Up owned own gathered gathers ordered.earlier ordered.there
 
     marked : (a b : ℕ) → Needed a b → Marked table a b

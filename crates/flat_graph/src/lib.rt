@@ -4,11 +4,14 @@
 #![tactic(auto)]
 
 mod depended;
+mod dependents;
 mod graph;
+mod hands;
 mod marks;
 mod node;
 mod places;
 mod rows;
 
 pub use depended::reached;
+pub use dependents::reached_from;
 pub use marks::Reached;
