@@ -10,4 +10,4 @@ mod classes;
 mod table;
 
 pub use classes::number_classes;
-pub use table::{Table, close};
+pub use table::{Table, close, unite};

@@ -1,0 +1,17 @@
+//! Flat code as a graph: each instruction with the array that it loads, copies or stores, and with the instructions
+//! that it uses. `reached` tells for each instruction which arrays it depends on, directly or through others; the
+//! passes behind flat code begin from it.
+#![tactic(auto)]
+
+mod depended;
+mod dependents;
+mod graph;
+mod hands;
+mod marks;
+mod node;
+mod places;
+mod rows;
+
+pub use depended::reached;
+pub use dependents::reached_from;
+pub use marks::Reached;
