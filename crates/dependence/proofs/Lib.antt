@@ -5,3 +5,6 @@ pub mod CycleLemmas
 pub mod UseLemmas
 pub mod GroupLemmas
 pub mod ClassLemmas
+pub mod CountLemmas
+pub mod LevelLemmas
+pub mod LeaderLemmas

@@ -1,7 +1,8 @@
 -- The groups of arrays, their levels and numbers, from which array reaches which.
-use Rattle.std.specs.Prelude.{◌≡◌, ℕ, ◌<◌, ◌⊎◌, ◌↔◌, List, length, Option, Some, None}
+use Rattle.std.specs.Prelude.{◌≡◌, ℕ, ◌<◌, ◌⊎◌, ◌↔◌, Bool, true, List, length, Option, Some, None}
 use Rattle.std.specs.List.{slice_index_or}
 use Rattle.dependence.specs.Paths.{IsDepth}
+use Rattle.dependence.specs.Tables.{has, Marked}
 
 -- b is reached by a, and doesn't reach it: it is of another group, which the group of a rests on
 abbrev pub RestsOn : (ℕ → ℕ → Type 0) → ℕ → ℕ → Type 0
@@ -23,3 +24,17 @@ pub record AreGroups (T : ℕ → Type 0) (Q : ℕ → ℕ → Type 0) (count : 
   pub same : (a b : ℕ) → T a → T b → (group_of of a ≡ group_of of b) ↔ (Q a b × Q b a)
   pub used : (g : ℕ) → g < count → (a : ℕ) × (a < length of) × T a × (group_of of a ≡ Some g)
   pub ordered : (a b g h : ℕ) → group_of of a ≡ Some g → group_of of b ≡ Some h → g < h → Before Q of a b
+
+-- ---- the groups of a table of marks
+
+-- an array is marked
+abbrev pub IsOn : List Bool → ℕ → Type 0
+IsOn marks a = (a < 16) × (has marks a ≡ true)
+
+-- the table marks that the array reaches the other, or both are the same
+abbrev pub Linked : List (List Bool) → ℕ → ℕ → Type 0
+Linked rows a b = (a ≡ b) ⊎ Marked rows a b
+
+-- what is marked through others is marked
+abbrev pub IsClosed : List (List Bool) → Type 0
+IsClosed rows = (a b c : ℕ) → Linked rows a b → Linked rows b c → Linked rows a c

@@ -5,3 +5,6 @@ pub mod Numbering
 pub mod Uses
 pub mod Paths
 pub mod Groups
+pub mod Counts
+pub mod Levels
+pub mod Leaders
