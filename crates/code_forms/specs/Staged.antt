@@ -7,6 +7,7 @@ use Rattle.code_forms.specs.declared.flat.Operand.TheVariants as operand
 use Rattle.code_forms.specs.declared.flat.Instr.{Instr}
 use Rattle.code_forms.specs.declared.flat.Instr.TheVariants as instr
 use Rattle.code_forms.specs.declared.flat.FlatArray.{FlatArray}
+use Rattle.code_forms.specs.declared.flat.FlatCode.{FlatCode}
 use Rattle.code_forms.specs.declared.parts.HeaderStep.{HeaderStep}
 use Rattle.code_forms.specs.declared.parts.StagedGroup.{StagedGroup}
 use Rattle.code_forms.specs.declared.parts.StagedParts.{StagedParts}
@@ -39,6 +40,9 @@ staged_of fields arrays instrs last parts = record {
   header = parts.header;
   stages = parts.stages;
 }
+
+abbrev pub in_parts : FlatCode → StagedParts → Staged
+in_parts code parts = staged_of code.fields code.arrays code.instrs code.last parts
 
 -- a number stands in the list
 abbrev pub Member : ℕ → List ℕ → Type 0

@@ -2,18 +2,24 @@
 -- header, and what stands in the units and the fields afterwards. It looks at values alone, and at no environment.
 use Rattle.std.specs.Prelude.{◌≡◌, ℕ, ◌+◌, ◌<◌, ◌==◌, ℤ, pos, Bool, true, false, if◌then◌else◌, List, ◌++◌, length, map, filter, flat_map, replicate, slice_set, Option, Some, None}
 use Rattle.std.specs.List.{fold, list_any, slice_index_or}
+use Rattle.code_forms.specs.declared.flat.Operand.{Operand}
 use Rattle.code_forms.specs.declared.flat.FlatArray.{FlatArray}
 use Rattle.code_forms.specs.declared.parts.HeaderStep.{HeaderStep}
 use Rattle.code_forms.specs.declared.parts.StagedGroup.{StagedGroup}
+use Rattle.code_forms.specs.declared.unit.Unit.{Unit as PlacedUnit}
 use Rattle.code_forms.specs.FlatMeaning.{instr_value, flat_values, flat_length}
-use Rattle.code_forms.specs.Staged.{Staged, Member, Fits, slot_of_index, operand_word, guards_of, group_at, group_of, first_array, share, unit_cell, stored_operand}
+use Rattle.code_forms.specs.Staged.{Staged, Member, Fits, slot_of_index, operand_word, guards_of, group_at, group_of, first_array, share, unit_cell, stored_operand, group_start}
 use Rattle.mp5_words.specs.Domain.{Loads, words}
 use Rattle.mp5_words.specs.Words.{truth}
 use Rattle.mp5_words.specs.Cells.{word_at, natural, touching, bits}
 
--- some guard of the array isn't 0 on words in slots
+-- some of these guards isn't 0 on words in slots
+abbrev pub is_open : List ℤ → List Operand → Bool
+is_open env guards = list_any (λ x. truth (operand_word env x)) guards
+
+-- some guard of the array isn't
 abbrev pub is_touching : Staged → List ℤ → ℕ → Bool
-is_touching c env a = list_any (λ x. truth (operand_word env x)) (guards_of c.arrays a)
+is_touching c env a = is_open env (guards_of c.arrays a)
 
 -- ---- the header run
 
@@ -33,11 +39,13 @@ header_words c header = fold (header_step c) (header ++ replicate (length c.inst
 abbrev pub unit_number : Staged → List ℤ → StagedGroup → ℕ
 unit_number c room g = if g.sharded then natural (word_at room (slot_of_index c (first_array g))) else 0
 
--- the place of a header at a group: its unit, where some array of the group may be touched
+-- the place at a group, where such words are in the slots: its unit, where some guard of some array of it isn't 0
+abbrev pub place_on : Staged → List ℤ → StagedGroup → Option ℕ
+place_on c room g = if list_any (is_touching c room) g.arrays then Some (unit_number c room g) else None
+
+-- the place of a header at a group
 abbrev pub place : Staged → List ℤ → ℕ → Option ℕ
-place c header g =
-    let room : List ℤ = header_words c header in
-    if list_any (is_touching c room) (group_at c g).arrays then Some (unit_number c room (group_at c g)) else None
+place c header g = place_on c (header_words c header) (group_at c g)
 
 -- a place as a number: 0, or 1 more than the unit
 abbrev pub place_code : Option ℕ → ℕ
@@ -64,10 +72,13 @@ loaded_word c units header (Some g) a index = placed_word c units g (place c hea
 abbrev pub staged_loads : Staged → Units → List ℤ → Loads
 staged_loads c units header a index = loaded_word c units header (group_of c a) a index
 
+-- the values of all slots, where such words are loaded
+abbrev pub code_values : Staged → Loads → List ℤ → List ℤ
+code_values c loads header = flat_values ℤ (words (flat_length c.arrays) loads) c.fields c.arrays c.instrs header
+
 -- the values of all slots
 abbrev pub staged_values : Staged → Units → List ℤ → List ℤ
-staged_values c units header =
-    flat_values ℤ (words (flat_length c.arrays) (staged_loads c units header)) c.fields c.arrays c.instrs header
+staged_values c units header = code_values c (staged_loads c units header) header
 
 -- ---- results
 
@@ -124,6 +135,33 @@ abbrev pub Leads : Staged → (List ℤ → Units → Type 0) → ℕ → ℕ �
 Leads c Holds from to old new = (header : List ℤ) (units : Units) → length header ≡ c.fields → Holds header units
     → Fits c (staged_values c units header) from old → Fits c (staged_values c units header) to new
 
+-- no matter which header and units
+abbrev pub Always : List ℤ → Units → Type 0
+Always header units = Unit {0}
+
+-- the header has no place at the group
+abbrev pub IsUnplaced : Staged → ℕ → List ℤ → Units → Type 0
+IsUnplaced c g header units = place c header g ≡ None
+
 -- the header has a place at the group: this unit, which has these cells
 abbrev pub IsPlaced : Staged → ℕ → ℕ → List ℤ → List ℤ → Units → Type 0
 IsPlaced c g u cells header units = (place c header g ≡ Some u) × (units g u ≡ cells)
+
+-- these are the cells of a placed unit afterwards, where the environment fitted before
+abbrev pub Serves : Staged → ℕ → PlacedUnit → List ℤ → List ℤ → Type 0
+Serves c g unit env cells = (header : List ℤ) (units : Units) → length header ≡ c.fields
+    → IsPlaced c g unit.number unit.cells header units → Fits c (staged_values c units header) (group_start c g) env
+    → cells ≡ units_after c units header g unit.number
+
+-- these are the touched arrays of the group, where the header has its place at that unit and the environment fitted
+-- before
+abbrev pub Touches : Staged → ℕ → PlacedUnit → List ℤ → ℕ → Type 0
+Touches c g unit env set = (header : List ℤ) (units : Units) → length header ≡ c.fields
+    → IsPlaced c g unit.number unit.cells header units → Fits c (staged_values c units header) (group_start c g) env
+    → set ≡ array_set (touched_in c (staged_values c units header) g)
+
+-- these are the last values of the fields, where the environment fits behind the last block
+abbrev pub Finishes : Staged → List ℤ → List ℤ → Type 0
+Finishes c env fields = (header : List ℤ) (units : Units) → length header ≡ c.fields
+    → Fits c (staged_values c units header) (group_start c (length c.groups)) env
+    → fields ≡ last_words c (staged_values c units header)
