@@ -13,3 +13,4 @@ pub mod RunningLemmas
 pub mod PartLemmas
 pub mod ServeLemmas
 pub mod PlaceLemmas
+pub mod TableLemmas

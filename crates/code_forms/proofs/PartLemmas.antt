@@ -70,7 +70,7 @@ group_reads c units header cells g p staged below within inside same a is =
     let here : 2 * g + 1 ≡ 2 * access.0 + 1 = one_part c (2 * g + 1) (2 * access.0 + 1) p staged.parts (omega (arith, below, count)) (omega (arith, access.1, count)) inside access.3 in
     let same_group : access.0 ≡ g = omega (arith, here) in
     let of : group_of c a ≡ Some g = access.2 ∙ ap (λ n. Some n) same_group in
-    let at_home : home c a ≡ group_at c g = ap (group_or_none c) of in (
+    let at_home : home c a ≡ group_at c g = ap (group_or_none c.groups) of in (
       loaded_there c p a staged within is,
       λ index. ap (λ o. loaded_word c units header o a index) of ∙ same a index ∙ ap (λ (h : StagedGroup). word_at cells (unit_cell c h a index)) (sym at_home),
     )

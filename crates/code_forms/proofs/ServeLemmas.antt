@@ -59,7 +59,7 @@ module _ (c : Staged) (spots : List Spot) (staged : IsStaged c) (are : AreSpots 
   store_same a member cells =
       let there = (staged.groups g below).there a member in
       let spot : spot_at spots a ≡ spot_of c a = are.each a there.0 in
-      let at_home : home c a ≡ group_at c g = ap (group_or_none c) there.1 in
+      let at_home : home c a ≡ group_at c g = ap (group_or_none c.groups) there.1 in
       let all = store_uses a member in
       let word : operand_word env (stored_operand c.instrs a) ≡ operand_word vals (stored_operand c.instrs a) =
       operand_agrees env vals (stored_operand c.instrs a) (agrees_front env vals (operand_slots (stored_operand c.instrs a)) (slot_of_index c a ∷ flat_map operand_slots (guards_of c.arrays a)) all) in

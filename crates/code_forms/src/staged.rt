@@ -1,13 +1,16 @@
 //! Flat code in the parts in which it runs.
 ghost use Rattle.std.specs.Prelude.{◌≡◌, ◌<◌, length, IfOk};
 ghost use Rattle.code_forms.specs.Staged.{slot_count, group_at, unit_count, in_parts, IsStaged, IsGroup};
-ghost use Rattle.code_forms.specs.StagedMeaning.{PlacesAreIndexes, array_set, start_of};
+ghost use Rattle.code_forms.specs.StagedMeaning.{PlacesAreIndexes, start_of};
 ghost use Rattle.code_forms.specs.FlatMeaning.{flat_length};
 
-use crate::flat::{FlatArray, Instr, Operand};
+use crate::flat::{FlatArray, FlatCode, Instr, Operand};
 use crate::parts::{StagedGroup, StagedParts};
 use crate::spot::Spot;
+use crate::table::table_of;
+use mp5_words::NoMemory;
 use sqlite_items::Items;
+use std::alloc::{AllocError, Global};
 use std::marker::Model;
 
 /// Flat code in the parts in which it runs on an environment, a slice with a word for each slot. The fields of the
@@ -34,6 +37,23 @@ impl Model for StagedCode {
 }
 
 impl StagedCode {
+    /// Flat code in the parts in which it is to run. The pass that places the arrays calls this.
+    pub fn new(alloc: Global, code: &FlatCode, parts: StagedParts) -> Result<StagedCode, NoMemory>
+        requires staged { IsStaged (in_parts code.now parts) }
+        requires places { PlacesAreIndexes (in_parts code.now parts) }
+        ensures { IfOk result (λ staged. staged ≡ in_parts code.now parts) }
+    {
+        let spots = table_of(alloc, code, &parts)?;
+        Ok(StagedCode {
+            fields: code.fields,
+            arrays: copy_of(alloc, code.arrays.as_slice())?,
+            instrs: Items::from_slice(alloc, code.instrs.as_slice())?,
+            last: Items::from_slice(alloc, code.last.as_slice())?,
+            parts,
+            spots,
+        })
+    }
+
     /// How many fields the packet has.
     pub fn fields(&self) -> u32
         ensures { result ≡ self.now.fields }
@@ -122,4 +142,21 @@ impl StagedCode {
     {
         &self.parts.groups.as_slice()[g as usize]
     }
+}
+
+// The same arrays.
+fn copy_of(alloc: Global, arrays: &[FlatArray]) -> Result<Items<FlatArray>, AllocError>
+    ensures { IfOk result (λ copy. copy ≡ arrays.now) }
+{
+    let mut copy = Items::new(alloc);
+    for array in arrays {
+        copy.push(FlatArray {
+            length: array.length,
+            start: array.start,
+            same: array.same,
+            touched: Items::from_slice(alloc, array.touched.as_slice())?,
+            copies: Items::from_slice(alloc, array.copies.as_slice())?,
+        })?;
+    }
+    Ok(copy)
 }

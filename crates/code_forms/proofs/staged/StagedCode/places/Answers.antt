@@ -1,7 +1,7 @@
 use Rattle.std.proofs.Common.{◌≡◌, ◌∙◌, ◌<◌, ℤ, List, length, fold, sym, ap, subst, arith}
 use Rattle.code_forms.specs.declared.spot.Spot.{Spot}
 use Rattle.code_forms.specs.Staged.{Staged, group_at}
-use Rattle.code_forms.specs.StagedMeaning.{header_words, place_on, place_code}
+use Rattle.code_forms.specs.StagedMeaning.{header_words, place_on, place_code, PlacesAreIndexes}
 use Rattle.code_forms.specs.Spots.{AreLengths, AreSpots, spot_step}
 use Rattle.code_forms.proofs.RunningLemmas.{lengths_fit}
 use Rattle.code_forms.proofs.PlaceLemmas.{header_run}
@@ -22,3 +22,6 @@ returns-clause-places c =
     λ g less.
     let before : g < c.loop-g.g = omega (arith, less, c.loop-g-test.false) in
     c.loop-g.invariant.1 g before ∙ ap (λ (r : List ℤ). place_code (place_on code r (group_at code g))) room
+
+pub returns-clause-indexes : goal.returns-clause-indexes
+returns-clause-indexes c = subst PlacesAreIndexes c.self.view_is c.self.invariant.places
