@@ -7,3 +7,10 @@ pub mod BelowLemmas
 pub mod FitLemmas
 pub mod FlatLemmas
 pub mod OrderLemmas
+pub mod SetLemmas
+pub mod StagedLemmas
+pub mod RunningLemmas
+pub mod PartLemmas
+pub mod ServeLemmas
+pub mod PlaceLemmas
+pub mod TableLemmas

@@ -1,0 +1,27 @@
+use Rattle.std.proofs.Common.{◌≡◌, ◌∙◌, ◌<◌, ℤ, List, length, fold, sym, ap, subst, arith}
+use Rattle.code_forms.specs.declared.spot.Spot.{Spot}
+use Rattle.code_forms.specs.Staged.{Staged, group_at}
+use Rattle.code_forms.specs.StagedMeaning.{header_words, place_on, place_code, PlacesAreIndexes}
+use Rattle.code_forms.specs.Spots.{AreLengths, AreSpots, spot_step}
+use Rattle.code_forms.proofs.RunningLemmas.{lengths_fit}
+use Rattle.code_forms.proofs.PlaceLemmas.{header_run}
+use Rattle.code_forms.proofs.staged.StagedCode.places.Goals as goal
+
+pub run_header-requires : goal.run_header-requires
+run_header-requires c =
+    subst (λ (l : List Spot). AreLengths l) (sym c.as_slice-2.ensures) (lengths_fit _ _ c.self.invariant.staged c.self.invariant.spots)
+
+pub returns-clause-places : goal.returns-clause-places
+returns-clause-places c =
+    let code : Staged = c.args.self.now in
+    let table = subst (λ (s : Staged). AreSpots s c.self.inside.spots) c.self.view_is c.self.invariant.spots in
+    let steps : c.as_slice.result.now ≡ code.header = c.as_slice.ensures ∙ ap (λ (s : Staged). s.header) c.self.view_is in
+    let room : c.run_header.new.room ≡ header_words code c.args.header.now =
+    header_run code c.self.inside.spots c.as_slice-2.result.now c.as_slice.result.now c.args.header.now (length c.args.room.now) c.run_header.new.room table
+    c.requires.header c.requires.room c.as_slice-2.ensures steps (c.run_header.ensures ∙ ap (λ (r : List ℤ). fold (spot_step c.as_slice-2.result.now) r c.as_slice.result.now) c.lay_out.ensures) in
+    λ g less.
+    let before : g < c.loop-g.g = omega (arith, less, c.loop-g-test.false) in
+    c.loop-g.invariant.1 g before ∙ ap (λ (r : List ℤ). place_code (place_on code r (group_at code g))) room
+
+pub returns-clause-indexes : goal.returns-clause-indexes
+returns-clause-indexes c = subst PlacesAreIndexes c.self.view_is c.self.invariant.places
