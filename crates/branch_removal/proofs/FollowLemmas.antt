@@ -8,10 +8,11 @@ use Rattle.domino_check.specs.declared.numbered.CheckedExpr.{CheckedExpr}
 use Rattle.domino_check.specs.Indexes.{index_of}
 use Rattle.domino_check.specs.Numbering.{numbered_body, accesses}
 use Rattle.domino_names.specs.NamesRefused.{PassesNames}
+use Rattle.domino_check.specs.SourceWalk.{source_indexes}
 use Rattle.domino_check.specs.Walk.{walk_index, walked}
 use Rattle.domino_names.proofs.InfoLemmas.{length-infos}
 use Rattle.code_forms.specs.GuardMeaning.{Guarded, index_value, indexes_of}
-use Rattle.branch_removal.specs.Followed.{source_indexes, Follows}
+use Rattle.branch_removal.specs.Followed.{Follows}
 use Rattle.branch_removal.specs.GuardedLines.{guarded_index, body_lines}
 use Rattle.branch_removal.specs.Shapes.{shapes_of}
 use Rattle.branch_removal.proofs.ShapeLemmas.{shapes_long, index_same}

@@ -2,11 +2,14 @@ pub mod Numbering
 pub mod Indexes
 pub mod NumberedMeaning
 pub mod Walk
+pub mod SourceWalk
 pub mod WellFormed
 pub mod Sites
 pub mod Touches
 pub mod Touched
 pub mod Reached
+pub mod SourceGroups
+pub mod Place
 pub mod Count
 pub mod Accepted
 pub mod Refused
