@@ -24,7 +24,8 @@ pub(crate) fn push_block(
     out: &mut Output,
 ) -> Result<(), AllocError>
     requires { out.old.next + block_guards body.now ≤ 4294967295 }
-    ensures lines { OnOk result (out.new.lines.items ≡ out.old.lines.items ++ (block body.now under out.old.next).lines) }
+    ensures lines { OnOk result (out.new.lines.items ≡ out.old.lines.items
+        ++ (block body.now under out.old.next).lines) }
     ensures next { OnOk result (out.new.next ≡ (block body.now under out.old.next).next) }
     ensures guards { OnOk result (out.new.next ≡ out.old.next + block_guards body.now) }
 {
@@ -43,7 +44,8 @@ fn push_stmt(
     out: &mut Output,
 ) -> Result<(), AllocError>
     requires { out.old.next + guards_in stmt.now ≤ 4294967295 }
-    ensures lines { OnOk result (out.new.lines.items ≡ out.old.lines.items ++ (stmt_lines stmt.now under out.old.next).lines) }
+    ensures lines { OnOk result (out.new.lines.items ≡ out.old.lines.items
+        ++ (stmt_lines stmt.now under out.old.next).lines) }
     ensures next { OnOk result (out.new.next ≡ (stmt_lines stmt.now under out.old.next).next) }
     ensures guards { OnOk result (out.new.next ≡ out.old.next + guards_in stmt.now) }
 {
@@ -86,8 +88,12 @@ fn push_arms(
 ) -> Result<u32, AllocError>
     requires { out.old.next + sum (map arm_guards arms.now) ≤ 4294967295 }
     // Whatever the last block is, its lines come under that guard.
-    ensures lines { IfOk result (λ otherwise. (last : Option (List Emits)) → out.old.lines.items ++ (arms_then arms.now last under out.old.next).lines ≡ out.new.lines.items ++ (last_lines last otherwise out.new.next).lines) }
-    ensures next { IfOk result (λ otherwise. (last : Option (List Emits)) → (arms_then arms.now last under out.old.next).next ≡ (last_lines last otherwise out.new.next).next) }
+    ensures lines { IfOk result (λ otherwise. (last : Option (List Emits))
+        → out.old.lines.items ++ (arms_then arms.now last under out.old.next).lines
+        ≡ out.new.lines.items ++ (last_lines last otherwise out.new.next).lines) }
+    ensures next { IfOk result (λ otherwise. (last : Option (List Emits))
+        → (arms_then arms.now last under out.old.next).next
+        ≡ (last_lines last otherwise out.new.next).next) }
     ensures guards { OnOk result (out.new.next ≡ out.old.next + sum (map arm_guards arms.now)) }
 {
     let mut under = under;
@@ -103,7 +109,8 @@ fn push_arms(
 #[cycle(stmt)]
 fn push_arm(alloc: Global, arm: &CheckedArm, under: u32, out: &mut Output) -> Result<(), AllocError>
     requires { out.old.next + arm_guards arm.now ≤ 4294967295 }
-    ensures lines { OnOk result (out.new.lines.items ≡ out.old.lines.items ++ (arm_lines arm.now under out.old.next).lines) }
+    ensures lines { OnOk result (out.new.lines.items ≡ out.old.lines.items
+        ++ (arm_lines arm.now under out.old.next).lines) }
     ensures next { OnOk result (out.new.next ≡ (arm_lines arm.now under out.old.next).next) }
     ensures guards { OnOk result (out.new.next ≡ out.old.next + arm_guards arm.now) }
     ensures room { OnOk result (out.old.next + 2 ≤ out.new.next) }

@@ -30,7 +30,8 @@ pub fn remove_branches(alloc: Global, checked: &Checked) -> Result<GuardCode, No
     // For every header they do what the walk over the source does: with the arrays behind each value, and with
     // what the header alone tells of it.
     ensures sources { IfOk result (λ c. Follows (List ℕ) sources checked.now c.arrays c.lines) }
-    ensures marks { IfOk result (λ c. Follows Mark (marks (length_at c.arrays)) checked.now c.arrays c.lines) }
+    ensures marks { IfOk result (λ c. Follows Mark (marks (length_at c.arrays)) checked.now
+        c.arrays c.lines) }
 {
     let program = checked.program();
     let arrays = shapes_of(alloc, checked)?;

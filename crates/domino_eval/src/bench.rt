@@ -37,7 +37,8 @@ impl<'a> Model for Bench<'a> {
 impl<'a> Bench<'a> {
     /// A bench on which each cell has its start value.
     pub fn new(alloc: Global, checked: &'a Checked) -> Result<Bench<'a>, NoMemory>
-        ensures { IfOk result (λ bench. bench ≡ record { program = checked.now; cells = start_cells (names_of checked.now) }) }
+        ensures { IfOk result (λ bench. bench
+            ≡ record { program = checked.now; cells = start_cells (names_of checked.now) }) }
     {
         // It passed the checks, so no index of a touched array moves.
         let _program = checked.program();
@@ -49,7 +50,10 @@ impl<'a> Bench<'a> {
     /// touched, bit `a` for array `a`.
     pub fn packet(&mut self, fields: &mut [i32]) -> u16
         ensures fields { fields.new ≡ (executed self.old fields.old).store.fields }
-        ensures cells { self.new ≡ record { program = self.old.program; cells = (executed self.old fields.old).store.cells } }
+        ensures cells { self.new ≡ record {
+          program = self.old.program;
+          cells = (executed self.old fields.old).store.cells;
+        } }
         ensures touched { result ≡ bits (executed self.old fields.old).touched }
     {
         let mut kept = [None; 16];

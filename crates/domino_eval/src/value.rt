@@ -248,7 +248,8 @@ fn hash_value(
     ensures value { result ≡ hash_all kind (map (λ (a : Store → ℤ). a (store fields.now cells.now))
         (map (numbered_value (indexing checked.now)) args.now)) }
     ensures touched { marks places.new
-        ≡ touching (flat_map (λ (a : List ℕ). a) (map numbered_arrays args.now)) (marks places.old) }
+        ≡ touching (flat_map (λ (a : List ℕ). a) (map numbered_arrays args.now))
+        (marks places.old) }
     ensures kept { ArePlaces (indexing checked.now) fields.now places.new }
 {
     let mut words = [0; 3];

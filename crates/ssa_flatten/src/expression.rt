@@ -36,9 +36,12 @@ pub(crate) fn flat_expr(
     out: &mut Output,
 ) -> Result<Operand, AllocError>
     requires { out.old.next + operators_in expr.now ≤ 2000 }
-    ensures result { IfOk result (λ x. x ≡ (code_at fields.now copies.now expr.now out.old.next).result) }
-    ensures instrs { OnOk result (HasBehind out.old out.new (code_at fields.now copies.now expr.now out.old.next).instrs) }
-    ensures next { OnOk result (out.new.next ≡ (code_at fields.now copies.now expr.now out.old.next).next) }
+    ensures result { IfOk result (λ x. x ≡ (code_at fields.now copies.now expr.now
+        out.old.next).result) }
+    ensures instrs { OnOk result (HasBehind out.old out.new
+        (code_at fields.now copies.now expr.now out.old.next).instrs) }
+    ensures next { OnOk result (out.new.next ≡ (code_at fields.now copies.now expr.now
+        out.old.next).next) }
     ensures count { OnOk result (out.new.next ≡ out.old.next + operators_in expr.now) }
 {
     match expr {
@@ -82,8 +85,10 @@ fn flat_args(
     requires { out.old.next + sum (map operators_in args.now) ≤ 2000 }
     ensures results { IfOk result (λ xs. xs.items ≡
         (codes_at fields.now copies.now args.now out.old.next).results) }
-    ensures instrs { OnOk result (HasBehind out.old out.new (codes_at fields.now copies.now args.now out.old.next).instrs) }
-    ensures next { OnOk result (out.new.next ≡ (codes_at fields.now copies.now args.now out.old.next).next) }
+    ensures instrs { OnOk result (HasBehind out.old out.new
+        (codes_at fields.now copies.now args.now out.old.next).instrs) }
+    ensures next { OnOk result (out.new.next ≡ (codes_at fields.now copies.now args.now
+        out.old.next).next) }
     ensures count { OnOk result (out.new.next ≡ out.old.next + sum (map operators_in args.now)) }
 {
     let mut operands = Vec::new(alloc);

@@ -87,7 +87,8 @@ impl Sofar {
         requires copies { length self.old.copies.items ≡ length shapes.now }
         requires arrays { length self.old.arrays.items ≡ length shapes.now }
         requires room { HasRoom shapes.now self.old 0 }
-        ensures line { OnOk result (Does self.old self.new (λ s. fold (touch_array shapes.now on) s arrays.now)) }
+        ensures line { OnOk result (Does self.old self.new (λ s.
+            fold (touch_array shapes.now on) s arrays.now)) }
         ensures keeps { OnOk result (Keeps shapes.now self.old self.new) }
     {
         for array in arrays {
@@ -100,7 +101,8 @@ impl Sofar {
     fn finish(&mut self, alloc: Global, header: u32, line: &GuardLine) -> Result<(), AllocError>
         requires room { self.old.out.next + line_count line.now ≤ 1990 }
         requires behind { header ≤ self.old.out.next }
-        requires there { All (λ array. array < length self.old.arrays.items) (line_arrays line.now) }
+        requires there { All (λ array. array < length self.old.arrays.items)
+            (line_arrays line.now) }
         ensures { OnOk result (Does self.old self.new (flat_done header line.now)) }
     {
         match line {
@@ -134,7 +136,8 @@ impl Sofar {
         requires arrays { length self.old.arrays.items ≡ length shapes.now }
         requires behind { header ≤ self.old.out.next }
         requires room { HasRoom shapes.now self.old (line_count line.now) }
-        ensures { OnOk result (Does self.old self.new (λ s. flat_line header shapes.now s line.now)) }
+        ensures { OnOk result (Does self.old self.new (λ s.
+            flat_line header shapes.now s line.now)) }
     {
         let on = operand_at(&self.guards, line_guard(line) as usize);
         let arrays = line_arrays(alloc, line)?;

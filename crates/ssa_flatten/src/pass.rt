@@ -78,7 +78,8 @@ fn flat_code(alloc: Global, code: &GuardCode) -> Result<FlatCode, AllocError>
 // The code of all lines, before the stores.
 fn code_of(alloc: Global, code: &GuardCode) -> Result<Sofar, AllocError>
     requires { count_for code.now ≤ 1024 }
-    ensures { IfOk result (λ s. held s ≡ view (flat_end code.now.fields code.now.arrays code.now.lines)) }
+    ensures { IfOk result (λ s. held s ≡ view (flat_end code.now.fields code.now.arrays
+        code.now.lines)) }
 {
     let shapes = code.arrays.as_slice();
     let mut sofar = start(alloc, code.fields, shapes)?;

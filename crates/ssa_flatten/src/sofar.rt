@@ -93,8 +93,10 @@ impl Sofar {
         value: &GuardExpr,
     ) -> Result<(), AllocError>
         requires { self.old.out.next + operators_in value.now ≤ 1999 }
-        ensures line { OnOk result (Does self.old self.new (flat_done header (SetField field guard value.now))) }
-        ensures next { OnOk result (self.new.out.next ≡ self.old.out.next + (operators_in value.now + 1)) }
+        ensures line { OnOk result (Does self.old self.new
+            (flat_done header (SetField field guard value.now))) }
+        ensures next { OnOk result (self.new.out.next ≡ self.old.out.next
+            + (operators_in value.now + 1)) }
     {
         let word = flat_expr(alloc, &self.fields, &self.copies, value, &mut self.out)?;
         let on = operand_at(&self.guards, guard as usize);
@@ -116,8 +118,10 @@ impl Sofar {
         requires room { self.old.out.next + operators_in value.now ≤ 1999 }
         requires behind { header ≤ self.old.out.next }
         requires there { array < length self.old.arrays.items }
-        ensures line { OnOk result (Does self.old self.new (flat_done header (SetCell array guard value.now))) }
-        ensures next { OnOk result (self.new.out.next ≡ self.old.out.next + (operators_in value.now + 1)) }
+        ensures line { OnOk result (Does self.old self.new
+            (flat_done header (SetCell array guard value.now))) }
+        ensures next { OnOk result (self.new.out.next ≡ self.old.out.next
+            + (operators_in value.now + 1)) }
     {
         let word = flat_expr(alloc, &self.fields, &self.copies, value, &mut self.out)?;
         let on = operand_at(&self.guards, guard as usize);
@@ -139,7 +143,8 @@ impl Sofar {
         requires { self.old.out.next + operators_in cond.now ≤ 1998 }
         ensures line { OnOk result ((h a b : ℕ) →
             Does self.old self.new (flat_done h (Test cond.now under a b))) }
-        ensures next { OnOk result (self.new.out.next ≡ self.old.out.next + (operators_in cond.now + 2)) }
+        ensures next { OnOk result (self.new.out.next ≡ self.old.out.next
+            + (operators_in cond.now + 2)) }
     {
         let word = flat_expr(alloc, &self.fields, &self.copies, cond, &mut self.out)?;
         let on = operand_at(&self.guards, under as usize);
@@ -162,7 +167,8 @@ impl Sofar {
         requires copies { length self.old.copies.items ≡ length shapes.now }
         requires arrays { length self.old.arrays.items ≡ length shapes.now }
         requires room { HasRoom shapes.now self.old 0 }
-        ensures line { OnOk result (Does self.old self.new (λ s. touch_array shapes.now on s array)) }
+        ensures line { OnOk result (Does self.old self.new (λ s.
+            touch_array shapes.now on s array)) }
         ensures keeps { OnOk result (Keeps shapes.now self.old self.new) }
     {
         if let Some(_word) = self.copies[array as usize] {
@@ -199,7 +205,8 @@ impl Sofar {
     ) -> Result<Operand, AllocError>
         requires there { array < length shapes.now }
         requires room { self.old.out.next + index_operators (index_at shapes.now array) ≤ 1988 }
-        ensures result { IfOk result (λ x. x ≡ (index_code shapes.now array (held self.old)).result) }
+        ensures result { IfOk result (λ x. x ≡ (index_code shapes.now array
+            (held self.old)).result) }
         ensures instrs { OnOk result (held self.new ≡ adds_index shapes.now array (held self.old)) }
         ensures count { OnOk result (self.new.out.next ≡
             self.old.out.next + index_operators (index_at shapes.now array)) }
