@@ -16,7 +16,8 @@ use std::alloc::Global;
 /// others. An instruction depends on those that it uses, and on those of its array. Numbers go up from 0, by first
 /// instructions. It takes time in proportion to the code, times sixteen.
 pub fn codelets(alloc: Global, code: &FlatCode) -> Result<Codelets, NoMemory>
-    ensures { IfOk result (λ k. AreClasses (Depends (nodes code.now)) (length code.now.instrs) k.of) }
+    ensures { IfOk result (λ k.
+        AreClasses (Depends (nodes code.now)) (length code.now.instrs) k.of) }
 {
     let to = reached(alloc, code)?;
     let from = reached_from(alloc, code)?;
