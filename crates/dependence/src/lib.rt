@@ -13,4 +13,4 @@ mod table;
 
 pub use classes::number_classes;
 pub use groups::{ArrayGroups, number_groups};
-pub use table::{Table, close};
+pub use table::{Table, close, unite};

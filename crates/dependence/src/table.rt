@@ -15,6 +15,15 @@ pub fn close(table: &mut Table)
     }
 }
 
+/// Marks what the other row marks too.
+pub fn unite(row: &mut [bool; 16], other: &[bool; 16])
+    ensures { (b : ℕ) → b < 16 → has row.new b ≡ (has row.old b || has other.now b) }
+{
+    for i in 0..16 {
+        row[i] |= other[i];
+    }
+}
+
 // Marks what is reached by passing the node once more.
 fn pass(table: &mut Table, node: usize)
     requires { node < 16 }
@@ -32,16 +41,7 @@ fn pass_row(row: &mut [bool; 16], through: &[bool; 16], node: usize)
     ensures { Passes node through.now row.old row.new }
 {
     if row[node] {
-        add(row, through);
-    }
-}
-
-// Marks what the other row marks too.
-fn add(row: &mut [bool; 16], other: &[bool; 16])
-    ensures { (b : ℕ) → b < 16 → has row.new b ≡ (has row.old b || has other.now b) }
-{
-    for i in 0..16 {
-        row[i] |= other[i];
+        unite(row, through);
     }
 }
 
@@ -61,6 +61,19 @@ mod tests {
         assert!(rt; table[15][15], "through the cycle");
         assert!(rt; !table[1][3], "no way back");
         assert!(rt; !table[3][3], "by no step alone");
+        Ok(())
+    }
+
+    #[test]
+    fn two_rows(rt: HostRuntime) -> Result<(), Fail> {
+        let mut row = [false; 16];
+        row[0] = true;
+        let mut other = [false; 16];
+        other[15] = true;
+        unite(&mut row, &other);
+        assert!(rt; row[0], "what was there stays");
+        assert!(rt; row[15], "what the other has");
+        assert!(rt; !row[1], "and no more");
         Ok(())
     }
 

@@ -1,10 +1,10 @@
 -- When a layout is that of code: its groups, the place of each instruction, the depth of each codelet, the stages.
-use Rattle.std.specs.Prelude.{◌≡◌, ◌≢◌, ℕ, suc, ◌<◌, ◌==◌, ◌⊎◌, Bool, false, List, [], length, map, slice_index, Option, Some, None}
+use Rattle.std.specs.Prelude.{◌≡◌, ◌≢◌, ℕ, suc, ◌<◌, ◌==◌, ◌⊎◌, Bool, false, List, length, map, slice_index, Option, Some, None}
 use Rattle.std.specs.List.{slice_index_or}
 use Rattle.mp5_words.specs.Cells.{bits}
 use Rattle.code_forms.specs.declared.layout.Spot.{Spot}
 use Rattle.code_forms.specs.declared.layout.Spot.TheVariants as spot
-use Rattle.dependence.specs.Reach.{Reaches, Mutual}
+use Rattle.dependence.specs.Reach.{Mutual}
 use Rattle.dependence.specs.Uses.{Node, node_at, Depends}
 use Rattle.dependence.specs.Groups.{AreGroups, group_of}
 use Rattle.dependence.specs.Paths.{IsDepth}

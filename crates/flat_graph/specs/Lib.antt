@@ -1,3 +1,5 @@
 pub mod Nodes
 pub mod ReachedArrays
+pub mod Orders
+pub mod Passes
 pub mod Layouts

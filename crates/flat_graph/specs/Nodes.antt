@@ -1,5 +1,5 @@
 -- Flat code as a graph of instructions.
-use Rattle.std.specs.Prelude.{ℕ, ◌-◌, if◌then◌else◌, nat_lt, List, [], ◌∷◌, ◌++◌, map, flat_map, Option, Some, None}
+use Rattle.std.specs.Prelude.{ℕ, ◌-◌, if◌then◌else◌, nat_lt, List, [], ◌∷◌, ◌++◌, map, flat_map, Option, Some}
 use Rattle.std.specs.List.{slice_index_or}
 use Rattle.code_forms.specs.declared.flat.FlatCode.{FlatCode}
 use Rattle.code_forms.specs.declared.flat.FlatArray.{FlatArray}
@@ -19,34 +19,52 @@ writer fields (operand.Number n) = []
 abbrev pub guards_of : List FlatArray → ℕ → List Operand
 guards_of arrays a = slice_index_or (map (λ (f : FlatArray). f.touched) arrays) a []
 
--- the instructions that an instruction uses: those that write its operands; a Load uses its Index too, and a Store its
--- Index and the guards under which its array is touched
+-- what an instruction takes: its operands, and for a Store the guards under which its array is touched
+abbrev pub taken_by : List FlatArray → Instr → List Operand
+taken_by arrays (instr.One op a) = a ∷ []
+taken_by arrays (instr.Two op a b) = a ∷ b ∷ []
+taken_by arrays (instr.Pick c a b) = c ∷ a ∷ b ∷ []
+taken_by arrays (instr.Hash kind a b c) = a ∷ b ∷ c ∷ []
+taken_by arrays (instr.Move a) = a ∷ []
+taken_by arrays (instr.Yes guard c) = guard ∷ c ∷ []
+taken_by arrays (instr.No guard c) = guard ∷ c ∷ []
+taken_by arrays (instr.Index array a) = a ∷ []
+taken_by arrays (instr.Load array) = []
+taken_by arrays (instr.Store array a) = a ∷ guards_of arrays array
+
+-- the Index of the cell that a Load or a Store speaks of
+abbrev pub index_used : List Instr → Instr → List ℕ
+index_used instrs (instr.Load array) = index_slot instrs 0 array ∷ []
+index_used instrs (instr.Store array a) = index_slot instrs 0 array ∷ []
+index_used instrs (instr.One op a) = []
+index_used instrs (instr.Two op a b) = []
+index_used instrs (instr.Pick c a b) = []
+index_used instrs (instr.Hash kind a b c) = []
+index_used instrs (instr.Move a) = []
+index_used instrs (instr.Yes guard c) = []
+index_used instrs (instr.No guard c) = []
+index_used instrs (instr.Index array a) = []
+
+-- the instructions that an instruction uses: its Index, and those that write what it takes
 abbrev pub used_by : ℕ → List FlatArray → List Instr → Instr → List ℕ
-used_by fields arrays instrs (instr.One op a) = writer fields a
-used_by fields arrays instrs (instr.Two op a b) = writer fields a ++ writer fields b
-used_by fields arrays instrs (instr.Pick c a b) = writer fields c ++ (writer fields a ++ writer fields b)
-used_by fields arrays instrs (instr.Hash kind a b c) = writer fields a ++ (writer fields b ++ writer fields c)
-used_by fields arrays instrs (instr.Move a) = writer fields a
-used_by fields arrays instrs (instr.Yes guard c) = writer fields guard ++ writer fields c
-used_by fields arrays instrs (instr.No guard c) = writer fields guard ++ writer fields c
-used_by fields arrays instrs (instr.Index array a) = writer fields a
-used_by fields arrays instrs (instr.Load array) = index_slot instrs 0 array ∷ []
-used_by fields arrays instrs (instr.Store array a) = writer fields a ++ (index_slot instrs 0 array ∷ flat_map (writer fields) (guards_of arrays array))
+used_by fields arrays instrs i = index_used instrs i ++ flat_map (writer fields) (taken_by arrays i)
+
+-- the array that an instruction loads or stores, else this one
+abbrev pub owner : Instr → Option ℕ → Option ℕ
+owner (instr.Load array) copy = Some array
+owner (instr.Store array a) copy = Some array
+owner (instr.One op a) copy = copy
+owner (instr.Two op a b) copy = copy
+owner (instr.Pick c a b) copy = copy
+owner (instr.Hash kind a b c) copy = copy
+owner (instr.Move a) copy = copy
+owner (instr.Yes guard c) copy = copy
+owner (instr.No guard c) copy = copy
+owner (instr.Index array a) copy = copy
 
 -- the array whose copy an instruction loads, makes or stores
 abbrev pub array_of : Step → Option ℕ
-array_of s = owner s.instr s.copy where
-  owner : Instr → Option ℕ → Option ℕ
-  owner (instr.Load array) copy = Some array
-  owner (instr.Store array a) copy = Some array
-  owner (instr.One op a) copy = copy
-  owner (instr.Two op a b) copy = copy
-  owner (instr.Pick c a b) copy = copy
-  owner (instr.Hash kind a b c) copy = copy
-  owner (instr.Move a) copy = copy
-  owner (instr.Yes guard c) copy = copy
-  owner (instr.No guard c) copy = copy
-  owner (instr.Index array a) copy = copy
+array_of s = owner s.instr s.copy
 
 -- an instruction as a node
 abbrev pub node_of : ℕ → List FlatArray → List Instr → Step → Node

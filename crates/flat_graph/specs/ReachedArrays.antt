@@ -17,8 +17,19 @@ ReachedFrom nodes i a = (m : ℕ) × (m < length nodes) × ((node_at nodes m).ar
 abbrev pub row : List (List Bool) → ℕ → List Bool
 row rows i = slice_index_or rows i []
 
+-- marks for each instruction, one for each of sixteen arrays: what is marked is in the relation
+pub record Marks (in_relation : ℕ → ℕ → Type 0) (count : ℕ) (rows : List (List Bool)) : Type 0 where
+  pub long : length rows ≡ count
+  pub marks : (i a : ℕ) → i < count → a < 16 → (has (row rows i) a ≡ true) ↔ in_relation i a
+
 -- for each instruction sixteen marks, one for each array that may be there: whether the instruction depends on it
-pub record MarksReached (nodes : List Node) (rows : List (List Bool)) : Type 0 where
-  pub long : length rows ≡ length nodes
-  pub wide : (i : ℕ) → i < length nodes → length (row rows i) ≡ 16
-  pub marks : (i a : ℕ) → i < length nodes → a < 16 → (has (row rows i) a ≡ true) ↔ ReachesArray nodes i a
+abbrev pub MarksReached : List Node → List (List Bool) → Type 0
+MarksReached nodes rows = Marks (ReachesArray nodes) (length nodes) rows
+
+-- and whether it depends on the instruction
+abbrev pub MarksReachedFrom : List Node → List (List Bool) → Type 0
+MarksReachedFrom nodes rows = Marks (ReachedFrom nodes) (length nodes) rows
+
+-- the marks of each instruction, as a value has them
+pub record Rows : Type 0 where
+  pub rows : List (List Bool)

@@ -3,3 +3,15 @@
 //! passes behind flat code begin from it.
 #![tactic(auto)]
 
+mod depended;
+mod dependents;
+mod graph;
+mod hands;
+mod marks;
+mod node;
+mod places;
+mod rows;
+
+pub use depended::reached;
+pub use dependents::reached_from;
+pub use marks::Reached;

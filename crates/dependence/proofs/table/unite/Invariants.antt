@@ -1,6 +1,6 @@
 use Rattle.std.proofs.Common.{◌≡◌, ◌<◌, ◌≤◌, ◌||◌, ℕ}
 use Rattle.dependence.specs.Tables.{has}
-use Rattle.dependence.proofs.table.add.Given as goal
+use Rattle.dependence.proofs.table.unite.Given as goal
 
 abbrev pub invariant-loop-i : goal.invariant-loop-i
 invariant-loop-i l = record {

@@ -1,0 +1,6 @@
+pub mod PlaceLemmas
+pub mod Ordered
+pub mod RowLemmas
+pub mod MarkLemmas
+pub mod NodeLemmas
+pub mod HandLemmas
