@@ -2,6 +2,9 @@
 #![tactic(auto)]
 
 #[cfg(test)]
+mod graph_rows;
+
+#[cfg(test)]
 mod tests {
     use branch_removal::remove_branches;
     use code_forms::{FlatArray, GuardCode, GuardExpr, GuardLine};

@@ -15,6 +15,10 @@ abbrev pub writer : ℕ → Operand → List ℕ
 writer fields (operand.Slot k) = if nat_lt k fields then [] else (k - fields) ∷ []
 writer fields (operand.Number n) = []
 
+-- the instructions that write the operands' slots
+abbrev pub writers : ℕ → List Operand → List ℕ
+writers fields operands = flat_map (writer fields) operands
+
 -- the guards under which an array is touched
 abbrev pub guards_of : List FlatArray → ℕ → List Operand
 guards_of arrays a = slice_index_or (map (λ (f : FlatArray). f.touched) arrays) a []
@@ -47,7 +51,11 @@ index_used instrs (instr.Index array a) = []
 
 -- the instructions that an instruction uses: its Index, and those that write what it takes
 abbrev pub used_by : ℕ → List FlatArray → List Instr → Instr → List ℕ
-used_by fields arrays instrs i = index_used instrs i ++ flat_map (writer fields) (taken_by arrays i)
+used_by fields arrays instrs i = index_used instrs i ++ writers fields (taken_by arrays i)
+
+-- the instructions that an instruction uses in flat code
+abbrev pub uses_in : FlatCode → Instr → List ℕ
+uses_in c i = used_by c.fields c.arrays c.instrs i
 
 -- the array that an instruction loads or stores, else this one
 abbrev pub owner : Instr → Option ℕ → Option ℕ
@@ -69,6 +77,10 @@ array_of s = owner s.instr s.copy
 -- an instruction as a node
 abbrev pub node_of : ℕ → List FlatArray → List Instr → Step → Node
 node_of fields arrays instrs s = record { array = array_of s; uses = used_by fields arrays instrs s.instr }
+
+-- an instruction of flat code as a node, where it makes a later copy of this array
+abbrev pub node_in : FlatCode → Instr → Option ℕ → Node
+node_in c i copy = node_of c.fields c.arrays c.instrs (record { instr = i; copy = copy })
 
 -- the instructions as nodes, in order
 abbrev pub nodes_in : ℕ → List FlatArray → List Instr → List Node

@@ -1,7 +1,6 @@
 //! Flat code as a graph.
-ghost use Rattle.std.specs.Prelude.{◌≡◌, ◌≤◌, IfOk, Option, length};
-ghost use Rattle.code_forms.specs.FlatMeaning.{Step};
-ghost use Rattle.flat_graph.specs.Nodes.{node_of, nodes};
+ghost use Rattle.std.specs.Prelude.{◌≡◌, ◌≤◌, IfOk, length};
+ghost use Rattle.flat_graph.specs.Nodes.{node_in, nodes};
 ghost use Rattle.flat_graph.specs.Orders.{IsOrdered, HasArray, ArePlaces, as_node, as_nodes};
 
 use crate::node::{Node, array_of, uses_of};
@@ -52,8 +51,7 @@ fn node(
     requires array { HasArray (length code.now.arrays) instr.now }
     requires few { length code.now.arrays ≤ 16 }
     requires places { ArePlaces 0 code.now.instrs places.now }
-    ensures { IfOk result (λ n. as_node n
-        ≡ node_of code.now.fields code.now.arrays code.now.instrs (record { instr = instr.now; copy = copy })) }
+    ensures { IfOk result (λ n. as_node n ≡ node_in code.now instr.now copy) }
 {
     Ok(Node {
         array: array_of(instr, copy),

@@ -1,6 +1,6 @@
 //! An instruction as a node of the graph.
-ghost use Rattle.std.specs.Prelude.{◌≡◌, ◌++◌, ◌≤◌, flat_map, IfOk, OnOk, length};
-ghost use Rattle.flat_graph.specs.Nodes.{owner, writer, taken_by, index_used, used_by};
+ghost use Rattle.std.specs.Prelude.{◌≡◌, ◌++◌, ◌≤◌, IfOk, OnOk, length};
+ghost use Rattle.flat_graph.specs.Nodes.{owner, writer, writers, taken_by, index_used, uses_in};
 ghost use Rattle.flat_graph.specs.Orders.{HasArray, ArePlaces};
 
 use code_forms::{FlatCode, Instr, Operand};
@@ -36,7 +36,7 @@ pub(crate) fn uses_of(
     requires array { HasArray (length code.now.arrays) instr.now }
     requires few { length code.now.arrays ≤ 16 }
     requires places { ArePlaces 0 code.now.instrs places.now }
-    ensures { IfOk result (λ uses. uses ≡ used_by code.now.fields code.now.arrays code.now.instrs instr.now) }
+    ensures { IfOk result (λ uses. uses ≡ uses_in code.now instr.now) }
 {
     let mut uses = Vec::new(alloc);
     push_index(&mut uses, code, places, instr)?;
@@ -54,7 +54,8 @@ fn push_index(
     requires array { HasArray (length code.now.arrays) instr.now }
     requires few { length code.now.arrays ≤ 16 }
     requires places { ArePlaces 0 code.now.instrs places.now }
-    ensures { OnOk result (uses.new.items ≡ uses.old.items ++ index_used code.now.instrs instr.now) }
+    ensures { OnOk result (uses.new.items
+        ≡ uses.old.items ++ index_used code.now.instrs instr.now) }
 {
     match instr {
         Instr::Load(array) | Instr::Store(array, _) => Ok(uses.push(places[*array as usize])?),
@@ -66,7 +67,7 @@ fn push_index(
 fn push_taken(uses: &mut Vec<u32>, code: &FlatCode, instr: &Instr) -> Result<(), AllocError>
     requires { HasArray (length code.now.arrays) instr.now }
     ensures { OnOk result (uses.new.items
-        ≡ uses.old.items ++ flat_map (writer code.now.fields) (taken_by code.now.arrays instr.now)) }
+        ≡ uses.old.items ++ writers code.now.fields (taken_by code.now.arrays instr.now)) }
 {
     let fields = code.fields;
     match instr {
@@ -90,7 +91,7 @@ fn push_taken(uses: &mut Vec<u32>, code: &FlatCode, instr: &Instr) -> Result<(),
 
 // Adds the instructions that write the operands' slots.
 fn push_writers(uses: &mut Vec<u32>, fields: u32, operands: &[Operand]) -> Result<(), AllocError>
-    ensures { OnOk result (uses.new.items ≡ uses.old.items ++ flat_map (writer fields) operands.now) }
+    ensures { OnOk result (uses.new.items ≡ uses.old.items ++ writers fields operands.now) }
 {
     for operand in operands {
         push_writer(uses, fields, operand)?;

@@ -1,5 +1,6 @@
 //! What an instruction's own text doesn't tell: where each array's Index is, and which copies are made.
-ghost use Rattle.std.specs.Prelude.{◌≡◌, ◌==◌, ◌<◌, ◌≤◌, ◌∷◌, ℕ, suc, if◌then◌else◌, All, List, Some, None, IfOk, length, replicate};
+ghost use Rattle.std.specs.Prelude.{◌≡◌, ◌==◌, ◌<◌, ◌≤◌, ◌∷◌, ℕ, suc, if◌then◌else◌};
+ghost use Rattle.std.specs.Prelude.{All, List, Some, None, IfOk, length, replicate};
 ghost use Rattle.std.specs.List.{list_any, slice_index_or};
 ghost use Rattle.code_forms.specs.declared.flat.Instr.{Instr};
 ghost use Rattle.flat_graph.specs.Orders.{HasArray, HaveArrays, ArePlaces, AreCopies, AreWithin, copies_in};
@@ -65,7 +66,8 @@ fn mark(copies: &mut [Option<u32>], numbers: &[u32], array: u32)
     requires { All (λ n. n < length copies.old) numbers.now }
     ensures long { length copies.new ≡ length copies.old }
     ensures marked { (k : ℕ) → k < length copies.old → slice_index_or copies.new k None
-        ≡ (if list_any (λ n. k == n) numbers.now then Some array else slice_index_or copies.old k None) }
+        ≡ (if list_any (λ n. k == n) numbers.now then Some array
+        else slice_index_or copies.old k None) }
 {
     for number in numbers {
         copies[*number as usize] = Some(array);
