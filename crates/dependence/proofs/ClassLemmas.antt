@@ -21,10 +21,22 @@ next_least : (n : ℕ) (xs : List ℕ) → n ≤ next_after n xs
 next_least n [] = omega arith
 next_least n (y ∷ xs) = let h : max n (y + 1) ≤ next_after (max n (y + 1)) xs = next_least (max n (y + 1)) xs in omega (arith, h)
 
-below : (n : ℕ) (xs : List ℕ) (a : ℕ) → a < length xs → slice_index xs a < next_after n xs
+pub below : (n : ℕ) (xs : List ℕ) (a : ℕ) → a < length xs → slice_index xs a < next_after n xs
 below n [] a w = absurd (omega arith)
 below n (x ∷ xs) zero w = let h : max n (x + 1) ≤ next_after (max n (x + 1)) xs = next_least (max n (x + 1)) xs in omega (arith, h)
 below n (x ∷ xs) (suc a) w = below (max n (x + 1)) xs a (omega arith)
+
+-- each number below the next one is there
+pub is_there : (n : ℕ) (xs : List ℕ) (c : ℕ) → InOrder n xs → n ≤ c → c < next_after n xs → (i : ℕ) × (i < length xs) × (slice_index xs i ≡ c)
+is_there n [] c h le less = absurd (omega arith)
+is_there n (x ∷ xs) c h le less =
+    elim (eqb_tells x c) [
+      | inl s ↦ (zero, omega arith, s.1)
+      | inr s ↦
+          let other : x ≡ c → ⊥ = s.1 in
+          let r = is_there (max n (x + 1)) xs c h.1 (omega (arith, h.0)) less in
+          (suc r.0, omega (arith, r.1), r.2)
+    ]
 
 front : (xs : List ℕ) (x a : ℕ) → a < length xs → slice_index (xs ++ x ∷ []) a ≡ slice_index xs a
 front [] x a w = absurd (omega arith)

@@ -43,15 +43,14 @@ module _ (R : ℕ → ℕ → Type 0) (spot : ℕ → Option ℕ) (block : ℕ �
     (closed : (i j g : ℕ) → spot i ≡ Some g → Reaches R i j → Reaches R j i → spot j ≡ Some g)
     (above : (i m g : ℕ) → spot i ≡ None → Reaches R i m → spot m ≡ Some g → g < block i)
     (least : (i : ℕ) → spot i ≡ None → (block i ≡ 0) ⊎ ((g : ℕ) × (m : ℕ) × (block i ≡ suc g) × Reaches R i m × (spot m ≡ Some g))) where
-  part_of : Option ℕ → ℕ → ℕ
+  abbrev pub part_of : Option ℕ → ℕ → ℕ
   part_of None b = b + b
   part_of (Some g) b = suc (g + g)
 
-  pub part : ℕ → ℕ
+  abbrev pub part : ℕ → ℕ
   part i = part_of (spot i) (block i)
 
   pub uses_before : (i j : ℕ) → R i j → part j ≤ part i
-  unfolding part part_of
   uses_before i j r = go (spot i) (spot j) refl refl where
     one : Reaches R i j
     one = step r here

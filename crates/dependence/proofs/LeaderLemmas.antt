@@ -1,15 +1,15 @@
 -- Groups are numbered by level, and within a level by their least array.
-use Rattle.std.proofs.Common.{◌≡◌, ℕ, zero, suc, ◌+◌, ◌*◌, ◌<◌, ◌≤◌, ◌↔◌, Bool, true, false, refl, sym, ap, ◌∙◌, subst, arith, inl, inr, ◌⊎◌, List, [], ◌∷◌, length, slice_index, Option, Some, None}
+use Rattle.std.proofs.Common.{◌≡◌, ℕ, zero, suc, ◌+◌, ◌*◌, ◌<◌, ◌≤◌, ◌↔◌, Bool, true, refl, sym, ap, ◌∙◌, subst, arith, inl, inr, ◌⊎◌, List, [], ◌∷◌, length, slice_index, Option, Some, None}
 use Rattle.std.specs.Prelude.{is_some, replicate}
 use Rattle.std.specs.List.{slice_index_or}
 use Rattle.std.proofs.lemmas.Bool.{cases_lt}
 use Rattle.std.proofs.lemmas.Bool.Decides.{eqb_tells}
-use Rattle.dependence.specs.Paths.{HasPath, IsDepth}
+use Rattle.dependence.specs.Paths.{IsDepth}
 use Rattle.dependence.specs.Groups.{RestsOn, Before, AreGroups, group_of, IsOn, Linked, IsClosed}
-use Rattle.dependence.specs.Levels.{AreLevels, links}
+use Rattle.dependence.specs.Levels.{AreLevels}
 use Rattle.dependence.specs.Leaders.{Joined, IsLeader, AreLeaders, AreLeast, Leads, Gives, Numbered, leader_of, rank}
 use Rattle.dependence.specs.declared.groups.ArrayGroups.{ArrayGroups}
-use Rattle.dependence.proofs.CountLemmas.{more_by_one, at_most}
+use Rattle.dependence.proofs.CountLemmas.{more_by_one}
 use Rattle.dependence.proofs.LevelLemmas.{level_small, level_join}
 
 some_is : {m n : ℕ} → Some m ≡ Some n → m ≡ n

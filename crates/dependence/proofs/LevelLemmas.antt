@@ -1,13 +1,13 @@
 -- Levels of arrays are longest paths.
-use Rattle.std.proofs.Common.{◌≡◌, ℕ, zero, suc, ◌+◌, ◌<◌, ◌≤◌, Bool, true, false, refl, sym, ap, ◌∙◌, subst, arith, inl, inr, ◌⊎◌, List, slice_index}
-use Rattle.std.specs.Prelude.{◌==◌, ◌||◌, replicate}
+use Rattle.std.proofs.Common.{◌≡◌, ℕ, zero, suc, ◌+◌, ◌<◌, ◌≤◌, Bool, true, false, refl, sym, subst, arith, inl, inr, ◌⊎◌, List, slice_index}
+use Rattle.std.specs.Prelude.{◌==◌, replicate}
 use Rattle.std.proofs.lemmas.Bool.{false≢true, cases_lt}
 use Rattle.std.proofs.lemmas.Bool.Decides.{Decides-eqb}
 use Rattle.dependence.specs.Counts.{how_many}
 use Rattle.dependence.specs.Paths.{HasPath, IsDepth}
-use Rattle.dependence.specs.Tables.{at, Marked, Closes}
+use Rattle.dependence.specs.Tables.{at, Closes}
 use Rattle.dependence.specs.Groups.{RestsOn, Linked, IsClosed}
-use Rattle.dependence.specs.Levels.{links, IsLevelOver, AreNextLevels}
+use Rattle.dependence.specs.Levels.{links, AreNextLevels}
 use Rattle.dependence.proofs.CountLemmas.{more_by_one, at_most}
 use Rattle.dependence.proofs.ReachLemmas.{join, or_cases, or_left, or_right}
 

@@ -1,5 +1,5 @@
 -- The least array of each group, and what the numbering of groups keeps.
-use Rattle.std.specs.Prelude.{◌≡◌, ℕ, ◌+◌, ◌*◌, ◌<◌, ◌≤◌, ◌⊎◌, ◌↔◌, Bool, List, length, slice_index, is_some, Option, Some, None}
+use Rattle.std.specs.Prelude.{◌≡◌, ℕ, ◌+◌, ◌*◌, ◌<◌, ◌≤◌, ◌↔◌, Bool, List, length, slice_index, is_some, Option, Some, None}
 use Rattle.std.specs.List.{slice_index_or}
 use Rattle.dependence.specs.Counts.{how_many}
 use Rattle.dependence.specs.Groups.{IsOn, Linked, group_of}

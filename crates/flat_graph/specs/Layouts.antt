@@ -1,13 +1,16 @@
 -- When a layout is that of code: its groups, the place of each instruction, the depth of each codelet, the stages.
-use Rattle.std.specs.Prelude.{◌≡◌, ◌≢◌, ℕ, suc, ◌<◌, ◌==◌, ◌⊎◌, Bool, false, List, length, map, slice_index, Option, Some, None}
+use Rattle.std.specs.Prelude.{◌≡◌, ◌≢◌, ℕ, suc, ◌+◌, ◌<◌, ◌==◌, ◌⊎◌, Bool, false, List, length, map, slice_index, Option, Some, None}
 use Rattle.std.specs.List.{slice_index_or}
 use Rattle.mp5_words.specs.Cells.{bits}
+use Rattle.code_forms.specs.declared.flat.FlatCode.{FlatCode}
+use Rattle.code_forms.specs.declared.layout.Layout.{Layout}
 use Rattle.code_forms.specs.declared.layout.Spot.{Spot}
 use Rattle.code_forms.specs.declared.layout.Spot.TheVariants as spot
 use Rattle.dependence.specs.Reach.{Mutual}
-use Rattle.dependence.specs.Uses.{Node, node_at, Depends}
+use Rattle.dependence.specs.Uses.{Member, Node, node_at, Depends}
 use Rattle.dependence.specs.Groups.{AreGroups, group_of}
 use Rattle.dependence.specs.Paths.{IsDepth}
+use Rattle.flat_graph.specs.Nodes.{nodes}
 use Rattle.flat_graph.specs.ReachedArrays.{ReachesArray}
 
 -- ---- groups
@@ -53,6 +56,17 @@ IsSpot nodes of i (spot.Block b) = IsBlock nodes of i b
 abbrev pub spot_at : List Spot → ℕ → Spot
 spot_at spots i = slice_index_or spots i (spot.Block 0)
 
+-- the part of the running order in which a place is: block 0, group 0, block 1, group 1 and so on
+abbrev pub part_of : Spot → ℕ
+part_of (spot.Block b) = b + b
+part_of (spot.Group g) = suc (g + g)
+
+-- an instruction runs behind those that it uses: they are in an earlier part, or in its own. In its own they come first
+-- by number, but where it loads, copies or stores an array: then they may be guards under which the array is touched
+abbrev pub RunsBehind : List Node → List Spot → Type 0
+RunsBehind nodes spots = (i j : ℕ) → i < length nodes → Member j (node_at nodes i).uses
+    → (part_of (spot_at spots j) < part_of (spot_at spots i)) ⊎ ((part_of (spot_at spots j) ≡ part_of (spot_at spots i)) × ((node_at nodes i).array ≡ None → j < i))
+
 -- ---- codelets and their depth
 
 -- the number of an instruction's codelet
@@ -85,13 +99,17 @@ pub record AreStages (depths : List ℕ) (stages : ℕ) : Type 0 where
 
 -- ---- all of it
 
--- the layout of code with so many arrays, whose codelets have these numbers
-pub record IsLayoutOf (nodes : List Node) (arrays : ℕ) (classes : List ℕ) (spots : List Spot) (depths : List ℕ) (sets : List ℕ) (stages : ℕ) : Type 0 where
+-- the layout of instructions whose codelets have these numbers. Sixteen arrays have groups; those that aren't there have none
+pub record IsLayoutOf (nodes : List Node) (classes : List ℕ) (spots : List Spot) (depths : List ℕ) (sets : List ℕ) (stages : ℕ) : Type 0 where
   pub of : List (Option ℕ)
-  pub wide : length of ≡ arrays
+  pub wide : length of ≡ 16
   pub groups : AreGroups (IsTouched nodes) (ArrayReaches nodes) (length sets) of
   pub sets_are : AreSets of sets
   pub long : length spots ≡ length nodes
   pub placed : (i : ℕ) → i < length nodes → IsSpot nodes of i (spot_at spots i)
   pub depths_are : AreDepths nodes classes spots depths
   pub stages_are : AreStages depths stages
+
+-- the same for flat code
+abbrev pub IsLayout : FlatCode → List ℕ → Layout → Type 0
+IsLayout code classes l = IsLayoutOf (nodes code) classes l.spot l.depth l.arrays l.stages

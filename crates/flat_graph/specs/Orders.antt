@@ -13,6 +13,7 @@ use Rattle.flat_graph.specs.declared.node.Node.{Node as CodeNode}
 abbrev pub as_node : CodeNode → Node
 as_node n = record { array = n.array; uses = n.uses }
 
+-- nodes of code as nodes
 abbrev pub as_nodes : List CodeNode → List Node
 as_nodes ns = map as_node ns
 

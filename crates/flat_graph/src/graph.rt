@@ -11,14 +11,14 @@ use std::alloc::{AllocError, Global};
 /// The instructions of flat code as nodes, in order. Uses are there, and those of an instruction of no array are
 /// earlier than the instruction.
 #[derive(Drop)]
-pub(crate) struct Graph {
+pub struct Graph {
     pub nodes: Vec<Node>,
     pub ghost ordered: { IsOrdered (as_nodes nodes.items) },
 }
 
 impl Graph {
     /// The graph of flat code.
-    pub(crate) fn of(alloc: Global, code: &FlatCode) -> Result<Graph, AllocError>
+    pub fn of(alloc: Global, code: &FlatCode) -> Result<Graph, AllocError>
         ensures { IfOk result (λ g. as_nodes g.nodes.items ≡ nodes code.now) }
     {
         let nodes = nodes_of(alloc, code)?;

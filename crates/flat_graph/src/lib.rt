@@ -14,4 +14,6 @@ mod rows;
 
 pub use depended::reached;
 pub use dependents::reached_from;
+pub use graph::Graph;
 pub use marks::Reached;
+pub use node::Node;

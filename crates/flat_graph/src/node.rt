@@ -9,7 +9,7 @@ use std::alloc::{AllocError, Global};
 
 /// An instruction as a node.
 #[derive(Drop)]
-pub(crate) struct Node {
+pub struct Node {
     /// The array whose copy it loads, makes or stores.
     pub array: Option<u32>,
     /// The numbers of the instructions that it uses.

@@ -1,9 +1,9 @@
-use Rattle.std.proofs.Common.{◌≤◌, ◌*◌, ◌≡◌, refl, subst, arith}
+use Rattle.std.proofs.Common.{◌≤◌, ◌*◌, ◌≡◌, subst, arith}
 use Rattle.std.specs.Prelude.{is_some}
 use Rattle.dependence.specs.Groups.{group_of}
 use Rattle.dependence.specs.Leaders.{Numbered, numbered}
 use Rattle.dependence.proofs.CountLemmas.{at_most}
-use Rattle.dependence.proofs.LeaderLemmas.{none_at, are_least, are_groups, nothing_numbered}
+use Rattle.dependence.proofs.LeaderLemmas.{are_groups, nothing_numbered}
 use Rattle.dependence.proofs.groups.number_groups.Goals as goal
 
 pub loop-level-init : goal.loop-level-init

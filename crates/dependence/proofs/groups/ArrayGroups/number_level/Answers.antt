@@ -3,7 +3,6 @@ use Rattle.std.specs.Prelude.{is_some}
 use Rattle.std.proofs.lemmas.Bool.{false≢true}
 use Rattle.dependence.specs.Groups.{group_of}
 use Rattle.dependence.specs.Leaders.{numbered, Numbered, Leads}
-use Rattle.dependence.specs.declared.groups.ArrayGroups.{ArrayGroups}
 use Rattle.dependence.proofs.CountLemmas.{at_most}
 use Rattle.dependence.proofs.LeaderLemmas.{passed, numbered_next}
 use Rattle.dependence.proofs.groups.ArrayGroups.number_level.Goals as goal
