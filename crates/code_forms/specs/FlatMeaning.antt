@@ -88,6 +88,7 @@ steps_in later k (i ∷ instrs) = record { instr = i; copy = copy_in later 0 k }
 abbrev pub steps_of : List FlatArray → List Instr → List Step
 steps_of arrays instrs = steps_in (map (λ (f : FlatArray). f.copies) arrays) 0 instrs
 
+-- how many cells an array has; 1 past them all
 abbrev pub flat_length : List FlatArray → ℕ → ℕ
 flat_length arrays a = slice_index_or (map (λ (f : FlatArray). f.length) arrays) a 1
 
