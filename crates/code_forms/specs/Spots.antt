@@ -19,6 +19,7 @@ use Rattle.mp5_words.specs.Cells.{word_at, natural}
 abbrev pub no_spot : Spot
 no_spot = record { length = 1; index = 0; start = 0; sharded = false; stored = operand.Number (pos 0) }
 
+-- where an array stands by the table
 abbrev pub spot_at : List Spot → ℕ → Spot
 spot_at spots a = slice_index_or spots a no_spot
 
@@ -49,6 +50,7 @@ group_or_none groups (Some g) = slice_index_or groups g no_group
 abbrev pub home_in : List StagedGroup → ℕ → StagedGroup
 home_in groups a = group_or_none groups (group_from groups 0 a)
 
+-- of staged code
 abbrev pub home : Staged → ℕ → StagedGroup
 home c a = home_in c.groups a
 

@@ -27,7 +27,7 @@ pub record Staged : Type 0 where
   pub header : List HeaderStep
   pub stages : ℕ
 
--- flat code in these parts
+-- instructions, arrays and last values in these parts
 abbrev pub staged_of : ℕ → List FlatArray → List Instr → List Operand → StagedParts → Staged
 staged_of fields arrays instrs last parts = record {
   fields = fields;
@@ -41,6 +41,8 @@ staged_of fields arrays instrs last parts = record {
   stages = parts.stages;
 }
 
+-- flat code in these parts
+-- code in these parts
 abbrev pub in_parts : FlatCode → StagedParts → Staged
 in_parts code parts = staged_of code.fields code.arrays code.instrs code.last parts
 
@@ -93,10 +95,11 @@ last_slots c = flat_map operand_slots c.last
 
 -- ---- the order of running
 
--- the number of the instruction that runs at a place of the order, and the instruction
+-- the number of the instruction that runs at a place of the order
 abbrev pub number_at : Staged → ℕ → ℕ
 number_at c p = slice_index c.order p
 
+-- the instruction that runs there
 abbrev pub runs : Staged → ℕ → Instr
 runs c p = instr_at c.instrs (number_at c p)
 
