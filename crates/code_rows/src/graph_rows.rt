@@ -1,11 +1,9 @@
 //! Rows of dependence: texts with the arrays around each instruction and with their codelets, worked out by hand.
 ghost use Rattle.std.specs.Prelude.{◌<◌, length};
 
-use branch_removal::remove_branches;
+use crate::fixture::{code_of, with_body};
 use code_forms::FlatCode;
 use code_graph::codelets;
-use domino_check::check;
-use domino_syntax::read_program;
 use flat_graph::{Reached, reached, reached_from};
 use ssa_flatten::flatten;
 use std::alloc::{AllocError, Global};
@@ -14,23 +12,8 @@ use std::test::Fail;
 
 /// The flat code of a text, if it is a program's and few enough instructions.
 fn flat_of(alloc: Global, text: &str) -> Option<FlatCode> {
-    let Ok(program) = read_program(alloc, text.as_bytes()) else {
-        return None;
-    };
-    let Ok(checked) = check(alloc, program) else {
-        return None;
-    };
-    let Ok(code) = remove_branches(alloc, &checked) else {
-        return None;
-    };
+    let code = code_of(alloc, text)?;
     flatten(alloc, &code).ok()
-}
-
-/// A program with these items, with the fields x, y and n, and with this body.
-fn with_body(alloc: Global, items: &str, body: &str) -> Result<String, AllocError> {
-    format!(in alloc;
-        "{items} struct P {{ int x; int y; int n; }}; void f(struct P p) {{ {body} }}"
-    )
 }
 
 /// The number of each instruction's codelet.
