@@ -13,7 +13,7 @@ use std::process::Abort;
 use std::test::Fail;
 
 /// The flat code of a text, if it is a program's and few enough instructions.
-fn flat_of(alloc: Global, text: &str) -> Option<FlatCode> {
+pub(crate) fn flat_of(alloc: Global, text: &str) -> Option<FlatCode> {
     let Ok(program) = read_program(alloc, text.as_bytes()) else {
         return None;
     };
@@ -27,7 +27,7 @@ fn flat_of(alloc: Global, text: &str) -> Option<FlatCode> {
 }
 
 /// A program with these items, with the fields x, y and n, and with this body.
-fn with_body(alloc: Global, items: &str, body: &str) -> Result<String, AllocError> {
+pub(crate) fn with_body(alloc: Global, items: &str, body: &str) -> Result<String, AllocError> {
     format!(in alloc;
         "{items} struct P {{ int x; int y; int n; }}; void f(struct P p) {{ {body} }}"
     )

@@ -3,6 +3,8 @@
 
 #[cfg(test)]
 mod graph_rows;
+#[cfg(test)]
+mod layout_rows;
 
 #[cfg(test)]
 mod tests {
