@@ -6,7 +6,7 @@ use Rattle.flat_graph.specs.Passes.{Shows, IsNeeded, Spreads}
 use Rattle.flat_graph.specs.Nodes.{nodes}
 use Rattle.flat_graph.proofs.PlaceLemmas.{taken}
 use Rattle.flat_graph.proofs.MarkLemmas.{marks_reached}
-use Rattle.flat_graph.proofs.depended.reached_rows.Goals as goal
+use Rattle.flat_graph.proofs.dependencies.reached_rows.Goals as goal
 
 pub returns : goal.returns
 returns c =
