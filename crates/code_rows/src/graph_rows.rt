@@ -11,7 +11,7 @@ use std::process::Abort;
 use std::test::Fail;
 
 /// The flat code of a text, if it is a program's and few enough instructions.
-fn flat_of(alloc: Global, text: &str) -> Option<FlatCode> {
+pub(crate) fn flat_of(alloc: Global, text: &str) -> Option<FlatCode> {
     let code = code_of(alloc, text)?;
     flatten(alloc, &code).ok()
 }

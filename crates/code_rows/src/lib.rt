@@ -1,4 +1,5 @@
-//! Rows of the compiler: bodies with their guarded lines, their instructions and their codelets, worked out by hand.
+//! Rows of the compiler: bodies with their guarded lines, their instructions, their codelets and their layouts, worked
+//! out by hand.
 #![tactic(auto)]
 
 #[cfg(test)]
@@ -11,6 +12,8 @@ mod fixture;
 mod graph_rows;
 #[cfg(test)]
 mod indexes;
+#[cfg(test)]
+mod layout_rows;
 #[cfg(test)]
 mod sizes;
 #[cfg(test)]
