@@ -14,3 +14,4 @@ pub mod PartLemmas
 pub mod ServeLemmas
 pub mod PlaceLemmas
 pub mod TableLemmas
+pub mod RowLemmas
