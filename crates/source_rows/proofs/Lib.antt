@@ -1,0 +1,3 @@
+mod NeedLemmas
+mod ChainLemmas
+mod StepLemmas

@@ -1,0 +1,7 @@
+-- one more
+use Rattle.std.proofs.Common.{◌∙◌, ◌++◌, ◌∷◌, []}
+use Rattle.std.proofs.lemmas.List.{replicate-append-replicate}
+use Rattle.source_rows.proofs.sources.empty_sets.Goals as goal
+
+pub loop-preserved : goal.loop-preserved
+loop-preserved c = c.in_ok-push.ensures.items ∙ (λ i. c.loop.invariant i ++ c.new.ensures i ∷ []) ∙ replicate-append-replicate c.loop.counter 1 []
