@@ -58,6 +58,7 @@ impl<'a> Model for Reader<'a> {
     ghost Value = { List Token };
 
     ghost view = { λ reader. reader.rest.now };
+
     ghost invariant = { λ reader. reader.level ≡ next_level (first reader.rest.now) };
 }
 
