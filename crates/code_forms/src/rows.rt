@@ -27,7 +27,8 @@ fn arrays(alloc: Global) -> Result<Items<FlatArray>, AllocError>
 
 // One group, sharded, behind two codelets.
 fn groups(alloc: Global) -> Result<Items<StagedGroup>, AllocError>
-    ensures { IfOk result (λ groups. groups ≡ record { arrays = 0 ∷ []; sharded = true; depth = 2 } ∷ []) }
+    ensures { IfOk result (λ groups. groups ≡
+        record { arrays = 0 ∷ []; sharded = true; depth = 2 } ∷ []) }
 {
     let mut groups = Items::new(alloc);
     groups.push(StagedGroup {
