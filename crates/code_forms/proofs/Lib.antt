@@ -15,3 +15,4 @@ pub mod ServeLemmas
 pub mod PlaceLemmas
 pub mod TableLemmas
 pub mod RowLemmas
+pub mod UnitLemmas

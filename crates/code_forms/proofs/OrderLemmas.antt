@@ -18,7 +18,7 @@ length_replicate (suc n) x = ap suc (length_replicate n x)
 -- ---- where an array's first Index stands
 
 -- an instruction that does nothing to an array isn't its Index
-slot_past : (i : Instr) (xs : List Instr) (at a : ℕ) → event_of a i ≡ [] → index_slot (i ∷ xs) at a ≡ index_slot xs (suc at) a
+pub slot_past : (i : Instr) (xs : List Instr) (at a : ℕ) → event_of a i ≡ [] → index_slot (i ∷ xs) at a ≡ index_slot xs (suc at) a
 slot_past (instr.Index b x) xs at a none = elim (eqb_tells b a) [
   | inl same ↦ absurd (no_event (sym (ap (λ (t : Bool). if t then Indexes ∷ [] else []) same.0) ∙ none))
   | inr other ↦ ap (λ (t : Bool). if t then at else index_slot xs (suc at) a) other.0
@@ -79,7 +79,7 @@ operand_here a x ys = ap (λ (t : Bool). if t then x else index_operand ys a) ((
 -- ---- an instruction is an array's Index, or does nothing first
 
 -- the first event of an array is that of its first instruction that has one
-first_event : (i : Instr) (a : ℕ) (es fs : List Event) → event_of a i ++ es ≡ Indexes ∷ fs → ((x : Operand) × (i ≡ instr.Index a x)) ⊎ (event_of a i ≡ [])
+pub first_event : (i : Instr) (a : ℕ) (es fs : List Event) → event_of a i ++ es ≡ Indexes ∷ fs → ((x : Operand) × (i ≡ instr.Index a x)) ⊎ (event_of a i ≡ [])
 first_event (instr.Index b x) a es fs e = elim (eqb_tells b a) [
   | inl same ↦ inl (x, ap (λ n. instr.Index n x) same.1)
   | inr other ↦ inr (ap (λ (t : Bool). if t then Indexes ∷ [] else []) other.0)

@@ -8,7 +8,7 @@ use Rattle.code_forms.specs.declared.parts.HeaderStep.{HeaderStep}
 use Rattle.code_forms.specs.declared.parts.StagedGroup.{StagedGroup}
 use Rattle.code_forms.specs.declared.unit.Unit.{Unit as PlacedUnit}
 use Rattle.code_forms.specs.FlatMeaning.{instr_value, flat_values, flat_length}
-use Rattle.code_forms.specs.Staged.{Staged, Member, Fits, slot_of_index, operand_word, guards_of, group_at, group_of, first_array, share, unit_cell, stored_operand, group_start}
+use Rattle.code_forms.specs.Staged.{Staged, Member, Fits, slot_of_index, operand_word, guards_of, group_at, group_of, first_array, unit_count, share, unit_cell, stored_operand, group_start}
 use Rattle.mp5_words.specs.Domain.{Loads, words}
 use Rattle.mp5_words.specs.Words.{truth}
 use Rattle.mp5_words.specs.Cells.{word_at, natural, touching, bits}
@@ -128,6 +128,10 @@ abbrev pub PlacesAreIndexes : Staged → Type 0
 PlacesAreIndexes c = (header : List ℤ) (units : Units) → length header ≡ c.fields → (g u : ℕ) → g < length c.groups
     → (group_at c g).sharded ≡ true → place c header g ≡ Some u → (a : ℕ) → Member a (group_at c g).arrays
     → word_at (staged_values c units header) (slot_of_index c a) ≡ pos u
+
+-- each place of the header is a unit of its group
+abbrev pub HasUnits : Staged → List ℤ → Type 0
+HasUnits c header = (g u : ℕ) → g < length c.groups → place c header g ≡ Some u → u < unit_count c (group_at c g)
 
 -- such an environment leads from a point to another: on every header and all units for which this holds, if it fits
 -- before, it fits after

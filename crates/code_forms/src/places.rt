@@ -2,7 +2,7 @@
 ghost use Rattle.std.specs.Prelude.{◌≡◌, ◌<◌, ◌≤◌, ◌-◌, ◌++◌, ℕ, pos, length, fold, replicate, slice_index};
 ghost use Rattle.std.specs.List.{list_any};
 ghost use Rattle.code_forms.specs.Staged.{slot_count, group_at, guards_of};
-ghost use Rattle.code_forms.specs.StagedMeaning.{is_open, place, place_on, place_code, PlacesAreIndexes};
+ghost use Rattle.code_forms.specs.StagedMeaning.{is_open, place, place_on, place_code, HasUnits, PlacesAreIndexes};
 ghost use Rattle.code_forms.specs.Spots.{spot_step, AreLengths};
 
 use crate::flat::FlatArray;
@@ -18,8 +18,10 @@ impl StagedCode {
     pub fn places(&self, header: &[i32], room: &mut [i32], out: &mut [u32; 16])
         requires header { length header.now ≡ self.now.fields }
         requires room { length room.old ≡ slot_count self.now }
-        ensures places { (g : ℕ) → g < 16 → slice_index out.new g ≡ place_code (place self.now header.now g) }
+        ensures places { (g : ℕ) → g < 16 →
+            slice_index out.new g ≡ place_code (place self.now header.now g) }
         ensures rest { (g : ℕ) → length self.now.groups ≤ g → g < 16 → slice_index out.new g ≡ 0 }
+        ensures units { HasUnits self.now header.now }
         ensures indexes { PlacesAreIndexes self.now }
     {
         lay_out(header, room);

@@ -11,8 +11,13 @@ use std::test::Fail;
 
 // Four cells, which start at 7.
 fn arrays(alloc: Global) -> Result<Items<FlatArray>, AllocError>
-    ensures { IfOk result (λ arrays. arrays ≡
-        record { length = 4; start = pos 7; same = 0; touched = Slot 3 ∷ []; copies = 6 ∷ [] } ∷ []) }
+    ensures { IfOk result (λ arrays. arrays ≡ record {
+      length = 4;
+      start = pos 7;
+      same = 0;
+      touched = Slot 3 ∷ [];
+      copies = 6 ∷ [];
+    } ∷ []) }
 {
     let mut arrays = Items::new(alloc);
     arrays.push(FlatArray {
@@ -27,7 +32,8 @@ fn arrays(alloc: Global) -> Result<Items<FlatArray>, AllocError>
 
 // One group, sharded, behind two codelets.
 fn groups(alloc: Global) -> Result<Items<StagedGroup>, AllocError>
-    ensures { IfOk result (λ groups. groups ≡ record { arrays = 0 ∷ []; sharded = true; depth = 2 } ∷ []) }
+    ensures { IfOk result (λ groups. groups ≡
+        record { arrays = 0 ∷ []; sharded = true; depth = 2 } ∷ []) }
 {
     let mut groups = Items::new(alloc);
     groups.push(StagedGroup {

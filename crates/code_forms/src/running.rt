@@ -21,7 +21,8 @@ impl StagedCode {
     /// Runs a block. There is one before each group, and one behind all.
     pub fn run_block(&self, b: u32, env: &mut [i32])
         requires { b ≤ length self.now.groups }
-        ensures { Leads self.now Always (block_start self.now b) (group_start self.now b) env.old env.new }
+        ensures { Leads self.now Always (block_start self.now b) (group_start self.now b)
+            env.old env.new }
     {
         self.run_part(2 * b as usize, env, &[]);
     }
@@ -29,8 +30,8 @@ impl StagedCode {
     /// Runs a group at which the header has no place: each Load gives 0, and no Store writes.
     pub fn skip(&self, g: u32, env: &mut [i32])
         requires { g < length self.now.groups }
-        ensures { Leads self.now (IsUnplaced self.now g) (group_start self.now g) (block_start self.now (g + 1))
-            env.old env.new }
+        ensures { Leads self.now (IsUnplaced self.now g)
+            (group_start self.now g) (block_start self.now (g + 1)) env.old env.new }
     {
         self.run_part(2 * g as usize + 1, env, &[]);
     }

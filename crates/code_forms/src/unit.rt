@@ -50,8 +50,8 @@ fn cells_of(
     sharded: bool,
     arrays: &[u32],
 ) -> Result<Items<i32>, AllocError>
-    ensures { IfOk result (λ cells. cells ≡ flat_map (λ a.
-        replicate (if sharded then 1 else flat_length flat.now a) (start_of flat.now a)) arrays.now) }
+    ensures { IfOk result (λ cells. cells ≡ flat_map (λ a. replicate
+        (if sharded then 1 else flat_length flat.now a) (start_of flat.now a)) arrays.now) }
 {
     let mut cells = Items::new(alloc);
     for array in arrays {

@@ -1,10 +1,11 @@
 use Rattle.std.proofs.Common.{◌≡◌, ◌∙◌, ◌<◌, ℤ, List, length, fold, sym, ap, subst, arith}
 use Rattle.code_forms.specs.declared.spot.Spot.{Spot}
 use Rattle.code_forms.specs.Staged.{Staged, group_at}
-use Rattle.code_forms.specs.StagedMeaning.{header_words, place_on, place_code, PlacesAreIndexes}
+use Rattle.code_forms.specs.StagedMeaning.{header_words, place_on, place_code, HasUnits, PlacesAreIndexes}
 use Rattle.code_forms.specs.Spots.{AreLengths, AreSpots, spot_step}
 use Rattle.code_forms.proofs.RunningLemmas.{lengths_fit}
 use Rattle.code_forms.proofs.PlaceLemmas.{header_run}
+use Rattle.code_forms.proofs.UnitLemmas.{has_units}
 use Rattle.code_forms.proofs.staged.StagedCode.places.Goals as goal
 
 pub run_header-requires : goal.run_header-requires
@@ -25,3 +26,8 @@ returns-clause-places c =
 
 pub returns-clause-indexes : goal.returns-clause-indexes
 returns-clause-indexes c = subst PlacesAreIndexes c.self.view_is c.self.invariant.places
+
+pub returns-clause-units : goal.returns-clause-units
+returns-clause-units c =
+    subst (λ (s : Staged). length c.args.header.now ≡ s.fields → HasUnits s c.args.header.now) c.self.view_is
+    (has_units _ c.args.header.now c.self.invariant.staged c.self.invariant.places) c.requires.header
