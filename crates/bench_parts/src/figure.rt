@@ -11,6 +11,8 @@ pub enum Trouble {
     NoMemory,
     /// The clock or the output failed.
     Outside,
+    /// A text that is to be measured isn't a program of the size that is wanted.
+    Refused,
 }
 
 impl From<NoMemory> for Trouble {

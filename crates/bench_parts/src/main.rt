@@ -1,8 +1,10 @@
-//! The program `bench_parts`: what the parts of a network of pipelines take, beside plain loops.
+//! The program `bench_parts`: what the parts of a network of pipelines and the passes of the compiler take, beside
+//! plain loops.
 #![tactic(auto)]
 
 mod figure;
 mod hops;
+mod passes;
 mod plans;
 mod queue;
 mod shares;
@@ -35,8 +37,28 @@ fn show(
     Ok(())
 }
 
+/// Measures both passes.
+fn measure_passes<R: Print + Clock>(rt: &R, alloc: Global) -> Result<(), Trouble> {
+    let passes = passes::measure(rt, alloc)?;
+    show(
+        rt,
+        "remove branches",
+        passes.removed,
+        "copy 1024 instructions",
+        passes.copied,
+    )?;
+    show(
+        rt,
+        "flatten",
+        passes.flattened,
+        "copy 1024 instructions",
+        passes.copied,
+    )
+}
+
 /// Measures each part in turn.
 fn measure<R: Print + Clock + Wait + Threads + Sync>(rt: &R, alloc: Global) -> Result<(), Trouble> {
+    measure_passes(rt, alloc)?;
     let visits = visits::measure(rt, alloc)?;
     let stores = visits::plain(rt, alloc)?;
     show(

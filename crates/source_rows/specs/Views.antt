@@ -25,6 +25,10 @@ Copies = List (Option (Copy Sources))
 abbrev pub seen : List Sources → Copies → Seen Sources
 seen fields copies = record { fields = fields; array = λ a. latest_of Sources source_ops (slice_index_or copies a None) }
 
+-- a value on these fields and copies
+abbrev pub at_seen : List Sources → Copies → (Seen Sources → Sources) → Sources
+at_seen fields copies value = value (seen fields copies)
+
 -- the state of a walk, from its parts
 abbrev pub core : List Sources → Copies → Core Sources
 core fields copies = record { fields = fields; copies = copies }

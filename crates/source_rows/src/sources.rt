@@ -6,7 +6,8 @@ ghost use Rattle.domino_names.specs.Infos.{infos_of};
 ghost use Rattle.domino_check.specs.NumberedMeaning.{numbered_arrays};
 ghost use Rattle.domino_check.specs.SourceGroups.{source_walk, no_sources};
 ghost use Rattle.domino_check.specs.Walk.{Walks};
-ghost use Rattle.source_rows.specs.Views.{Sources, core, indexes_in, touching, stmt_walk, block_walk, arm_touched, chain_walk, last_in, guard_in, arm_cond, touching_all, field_walk, cell_walk, set_value, stored_value};
+ghost use Rattle.source_rows.specs.State.{state_of};
+ghost use Rattle.source_rows.specs.Views.{Sources, indexes_in, touching, stmt_walk, block_walk, arm_touched, chain_walk, last_in, guard_in, arm_cond, touching_all, field_walk, cell_walk, set_value, stored_value};
 
 use crate::arrays::arrays_in;
 use crate::sets::{alone, both, put_set, set_at};
@@ -24,7 +25,7 @@ pub struct Walked {
 
 /// The walk over a program.
 pub fn walk(alloc: Global, checked: &Checked) -> Result<Walked, AllocError>
-    ensures { IfOk result (λ w. core w.fields.items w.copies.items ≡ source_walk checked.now) }
+    ensures { IfOk result (λ w. state_of w ≡ source_walk checked.now) }
 {
     let mut walked = start(alloc, checked)?;
     walk_block(alloc, checked, checked.body(), &None, &mut walked)?;
@@ -42,8 +43,8 @@ fn walk_block(
     walked: &mut Walked,
 ) -> Result<(), AllocError>
     requires { length walked.old.copies.items ≡ length (infos_of checked.now) }
-    ensures walked { OnOk result (core walked.new.fields.items walked.new.copies.items
-        ≡ block_walk checked.now body.now context.now (core walked.old.fields.items walked.old.copies.items)) }
+    ensures walked { OnOk result (state_of walked.new
+        ≡ block_walk checked.now body.now context.now (state_of walked.old)) }
     ensures long { OnOk result (length walked.new.copies.items ≡ length (infos_of checked.now)) }
 {
     for stmt in body {
@@ -61,8 +62,8 @@ fn walk_stmt(
     walked: &mut Walked,
 ) -> Result<(), AllocError>
     requires { length walked.old.copies.items ≡ length (infos_of checked.now) }
-    ensures walked { OnOk result (core walked.new.fields.items walked.new.copies.items
-        ≡ stmt_walk checked.now stmt.now context.now (core walked.old.fields.items walked.old.copies.items)) }
+    ensures walked { OnOk result (state_of walked.new
+        ≡ stmt_walk checked.now stmt.now context.now (state_of walked.old)) }
     ensures long { OnOk result (length walked.new.copies.items ≡ length (infos_of checked.now)) }
 {
     match stmt {
@@ -93,8 +94,8 @@ fn walk_arms(
 ) -> Result<Option<Items<u32>>, AllocError>
     requires { length walked.old.copies.items ≡ length (infos_of checked.now) }
     ensures walked { IfOk result (λ otherwise. (last : Option (List (Walks Sources)))
-        → chain_walk checked.now arms.now last context.now (core walked.old.fields.items walked.old.copies.items)
-        ≡ last_in checked.now last otherwise (core walked.new.fields.items walked.new.copies.items)) }
+        → chain_walk checked.now arms.now last context.now (state_of walked.old)
+        ≡ last_in checked.now last otherwise (state_of walked.new)) }
     ensures long { OnOk result (length walked.new.copies.items ≡ length (infos_of checked.now)) }
 {
     let mut otherwise = copied(alloc, context)?;
@@ -115,10 +116,10 @@ fn walk_arm(
 ) -> Result<Items<u32>, AllocError>
     requires { length walked.old.copies.items ≡ length (infos_of checked.now) }
     ensures fails { IfOk result (λ fails. fails ≡ guard_in checked.now context.now
-        ++ arm_cond checked.now arm.now context.now (core walked.old.fields.items walked.old.copies.items)) }
-    ensures walked { IfOk result (λ fails. core walked.new.fields.items walked.new.copies.items
+        ++ arm_cond checked.now arm.now context.now (state_of walked.old)) }
+    ensures walked { IfOk result (λ fails. state_of walked.new
         ≡ block_walk checked.now arm.now.body (Some fails)
-        (arm_touched checked.now arm.now context.now (core walked.old.fields.items walked.old.copies.items))) }
+        (arm_touched checked.now arm.now context.now (state_of walked.old))) }
     ensures long { OnOk result (length walked.new.copies.items ≡ length (infos_of checked.now)) }
 {
     let guard = guard(alloc, checked, context)?;
@@ -196,8 +197,8 @@ fn set_field(
     walked: &mut Walked,
 ) -> Result<(), AllocError>
     requires { length walked.old.copies.items ≡ length (infos_of checked.now) }
-    ensures walked { OnOk result (core walked.new.fields.items walked.new.copies.items
-        ≡ field_walk checked.now field expr.now context.now (core walked.old.fields.items walked.old.copies.items)) }
+    ensures walked { OnOk result (state_of walked.new
+        ≡ field_walk checked.now field expr.now context.now (state_of walked.old)) }
     ensures long { OnOk result (length walked.new.copies.items ≡ length (infos_of checked.now)) }
 {
     let guard = guard(alloc, checked, context)?;
@@ -239,8 +240,8 @@ fn set_cell(
     walked: &mut Walked,
 ) -> Result<(), AllocError>
     requires { length walked.old.copies.items ≡ length (infos_of checked.now) }
-    ensures walked { OnOk result (core walked.new.fields.items walked.new.copies.items
-        ≡ cell_walk checked.now array expr.now context.now (core walked.old.fields.items walked.old.copies.items)) }
+    ensures walked { OnOk result (state_of walked.new
+        ≡ cell_walk checked.now array expr.now context.now (state_of walked.old)) }
     ensures long { OnOk result (length walked.new.copies.items ≡ length (infos_of checked.now)) }
 {
     let guard = guard(alloc, checked, context)?;
@@ -284,8 +285,8 @@ fn touch_all(
     walked: &mut Walked,
 ) -> Result<(), AllocError>
     requires { length walked.old.copies.items ≡ length (infos_of checked.now) }
-    ensures walked { OnOk result (core walked.new.fields.items walked.new.copies.items
-        ≡ touching_all checked.now (numbered_arrays expr.now) guard.now (core walked.old.fields.items walked.old.copies.items)) }
+    ensures walked { OnOk result (state_of walked.new
+        ≡ touching_all checked.now (numbered_arrays expr.now) guard.now (state_of walked.old)) }
     ensures long { OnOk result (length walked.new.copies.items ≡ length (infos_of checked.now)) }
 {
     let arrays = arrays_in(alloc, expr)?;
@@ -301,8 +302,8 @@ fn touch_each(
     walked: &mut Walked,
 ) -> Result<(), AllocError>
     requires { length walked.old.copies.items ≡ length (infos_of checked.now) }
-    ensures walked { OnOk result (core walked.new.fields.items walked.new.copies.items
-        ≡ touching_all checked.now arrays.now guard.now (core walked.old.fields.items walked.old.copies.items)) }
+    ensures walked { OnOk result (state_of walked.new
+        ≡ touching_all checked.now arrays.now guard.now (state_of walked.old)) }
     ensures long { OnOk result (length walked.new.copies.items ≡ length (infos_of checked.now)) }
 {
     for array in arrays {

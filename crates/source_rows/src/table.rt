@@ -1,9 +1,10 @@
 //! Which arrays of a program need which.
-ghost use Rattle.std.specs.Prelude.{◌≡◌, ◌<◌, ◌↔◌, ◌⊎◌, ℕ, true, length, IfOk, Some, None};
+ghost use Rattle.std.specs.Prelude.{◌≡◌, ◌⊎◌, true, IfOk, None};
 ghost use Rattle.std.specs.List.{slice_index_or};
-ghost use Rattle.dependence.specs.Tables.{at, has};
+ghost use Rattle.dependence.specs.Tables.{has};
 ghost use Rattle.dependence.specs.Uses.{Member};
 ghost use Rattle.domino_check.specs.SourceGroups.{Needs, StandsBehind, all_sources};
+ghost use Rattle.source_rows.specs.Marks.{Marks, MarksPairs};
 
 use crate::sources::walk;
 use crate::values::Copied;
@@ -15,7 +16,7 @@ use std::alloc::Global;
 
 /// A mark for each pair of arrays of which the first needs the second.
 pub fn needs(alloc: Global, checked: &Checked) -> Result<Table, NoMemory>
-    ensures { IfOk result (λ table. (a b : ℕ) → a < 16 → b < 16 → (at table a b ≡ true) ↔ Needs checked.now a b) }
+    ensures { IfOk result (λ table. MarksPairs table (Needs checked.now)) }
 {
     let walked = walk(alloc, checked)?;
     Ok(table_of(&walked.copies))
@@ -23,7 +24,7 @@ pub fn needs(alloc: Global, checked: &Checked) -> Result<Table, NoMemory>
 
 // The marks of each array's row.
 fn table_of(copies: &[Option<Copied>]) -> Table
-    ensures { (a b : ℕ) → a < 16 → b < 16 → (at result a b ≡ true) ↔ StandsBehind b (slice_index_or copies.now a None) }
+    ensures { MarksPairs result (λ a b. StandsBehind b (slice_index_or copies.now a None)) }
 {
     let mut table = [[false; 16]; 16];
     for a in 0..16 {
@@ -34,7 +35,7 @@ fn table_of(copies: &[Option<Copied>]) -> Table
 
 // The marks of an array's row; none past them all.
 fn row_at(copies: &[Option<Copied>], a: usize) -> [bool; 16]
-    ensures { (b : ℕ) → b < 16 → (has result b ≡ true) ↔ StandsBehind b (slice_index_or copies.now a None) }
+    ensures { Marks result (λ b. StandsBehind b (slice_index_or copies.now a None)) }
 {
     if a < copies.len() {
         row_of(&copies[a])
@@ -44,7 +45,7 @@ fn row_at(copies: &[Option<Copied>], a: usize) -> [bool; 16]
 }
 
 fn row_of(copied: &Option<Copied>) -> [bool; 16]
-    ensures { (b : ℕ) → b < 16 → (has result b ≡ true) ↔ StandsBehind b copied.now }
+    ensures { Marks result (λ b. StandsBehind b copied.now) }
 {
     let mut row = [false; 16];
     if let Some(copied) = copied {
@@ -57,7 +58,8 @@ fn row_of(copied: &Option<Copied>) -> [bool; 16]
 
 // Marks these arrays too, one list after another.
 fn mark_lists(row: &mut [bool; 16], lists: &[Items<u32>])
-    ensures { (b : ℕ) → b < 16 → (has row.new b ≡ true) ↔ ((has row.old b ≡ true) ⊎ Member b (all_sources lists.now)) }
+    ensures { Marks row.new
+        (λ b. (has row.old b ≡ true) ⊎ Member b (all_sources lists.now)) }
 {
     for list in lists {
         mark(row, list.as_slice());
@@ -66,7 +68,7 @@ fn mark_lists(row: &mut [bool; 16], lists: &[Items<u32>])
 
 // Marks these arrays too.
 fn mark(row: &mut [bool; 16], arrays: &[u32])
-    ensures { (b : ℕ) → b < 16 → (has row.new b ≡ true) ↔ ((has row.old b ≡ true) ⊎ Member b arrays.now) }
+    ensures { Marks row.new (λ b. (has row.old b ≡ true) ⊎ Member b arrays.now) }
 {
     for array in arrays {
         mark_one(row, *array);
@@ -74,7 +76,7 @@ fn mark(row: &mut [bool; 16], arrays: &[u32])
 }
 
 fn mark_one(row: &mut [bool; 16], array: u32)
-    ensures { (b : ℕ) → b < 16 → (has row.new b ≡ true) ↔ ((has row.old b ≡ true) ⊎ (b ≡ array)) }
+    ensures { Marks row.new (λ b. (has row.old b ≡ true) ⊎ (b ≡ array)) }
 {
     if array < 16 {
         row[array as usize] = true;

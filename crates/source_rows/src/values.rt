@@ -2,10 +2,10 @@
 ghost use Rattle.std.specs.Prelude.{◌≡◌, ◌∷◌, [], List, ℕ, IfOk, map, None, slice_set};
 ghost use Rattle.std.specs.List.{slice_index_or};
 ghost use Rattle.std.specs.Option.{option_copied};
-ghost use Rattle.mp5_words.specs.Copies.{Seen, latest_of};
+ghost use Rattle.mp5_words.specs.Copies.{latest_of};
 ghost use Rattle.mp5_words.specs.Domain.{source_ops};
 ghost use Rattle.domino_check.specs.Walk.{walk_value, walk_index};
-ghost use Rattle.source_rows.specs.Views.{seen};
+ghost use Rattle.source_rows.specs.Views.{seen, at_seen};
 
 use crate::sets::{both, first_three, set_at};
 use domino_check::CheckedExpr;
@@ -32,7 +32,12 @@ impl Model for Copied {
 
     ghost coded = { copy_code };
 
-    ghost view = { λ c. record { index = c.index; latest = c.latest; under = c.under; stored = c.stored } };
+    ghost view = { λ c. record {
+      index = c.index;
+      latest = c.latest;
+      under = c.under;
+      stored = c.stored;
+    } };
 }
 
 /// The arrays behind an expression.
@@ -43,7 +48,8 @@ pub(crate) fn value(
     fields: &[Items<u32>],
     copies: &[Option<Copied>],
 ) -> Result<Items<u32>, AllocError>
-    ensures { IfOk result (λ set. set ≡ walk_value (List ℕ) source_ops expr.now (seen fields.now copies.now)) }
+    ensures { IfOk result
+        (λ set. set ≡ walk_value (List ℕ) source_ops expr.now (seen fields.now copies.now)) }
 {
     match expr {
         CheckedExpr::Number(_) => Ok(Items::new(alloc)),
@@ -77,7 +83,7 @@ fn values(
     fields: &[Items<u32>],
     copies: &[Option<Copied>],
 ) -> Result<Items<Items<u32>>, AllocError>
-    ensures { IfOk result (λ all. all ≡ map (λ (x : Seen (List ℕ) → List ℕ). x (seen fields.now copies.now))
+    ensures { IfOk result (λ all. all ≡ map (at_seen fields.now copies.now)
         (map (walk_value (List ℕ) source_ops) args.now)) }
 {
     let mut all = Items::new(alloc);
@@ -89,7 +95,8 @@ fn values(
 
 // Those behind the latest copy of an array; none where it isn't touched.
 fn latest(alloc: Global, copies: &[Option<Copied>], array: usize) -> Result<Items<u32>, AllocError>
-    ensures { IfOk result (λ set. set ≡ latest_of (List ℕ) source_ops (slice_index_or copies.now array None)) }
+    ensures { IfOk result
+        (λ set. set ≡ latest_of (List ℕ) source_ops (slice_index_or copies.now array None)) }
 {
     if copies.len() <= array {
         return Ok(Items::new(alloc));
@@ -106,7 +113,8 @@ pub(crate) fn index(
     index: Option<&CheckedExpr>,
     fields: &[Items<u32>],
 ) -> Result<Items<u32>, AllocError>
-    ensures { IfOk result (λ set. set ≡ walk_index (List ℕ) source_ops (option_copied index.entry) fields.now) }
+    ensures { IfOk result
+        (λ set. set ≡ walk_index (List ℕ) source_ops (option_copied index.entry) fields.now) }
 {
     match index {
         Some(index) => value(alloc, index, fields, &[]),
