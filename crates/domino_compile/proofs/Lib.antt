@@ -1,1 +1,4 @@
 pub mod FrameLemmas
+pub mod UnitsLemmas
+pub mod MeaningLoads
+pub mod MeaningCopies
