@@ -2,3 +2,5 @@ pub mod FrameLemmas
 pub mod UnitsLemmas
 pub mod MeaningLoads
 pub mod MeaningCopies
+pub mod MeaningGroups
+pub mod MeaningRows
