@@ -4,3 +4,4 @@ pub mod MeaningLoads
 pub mod MeaningCopies
 pub mod MeaningGroups
 pub mod MeaningRows
+pub mod MeaningWhole
