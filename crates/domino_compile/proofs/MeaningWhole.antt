@@ -1,5 +1,5 @@
 -- Staged code on the units of any cells ends as the source does on these cells.
-use Rattle.std.proofs.Common.{◌≡◌, ℕ, zero, suc, ◌+◌, ◌<◌, ◌==◌, ◌&&◌, nat_lt, ℤ, pos, Bool, true, false, if◌then◌else◌, List, [], ◌∷◌, ◌++◌, length, map, flat_map, fold, replicate, slice_set, Option, Some, None, refl, sym, ap, subst, ◌∙◌, inl, inr, arith}
+use Rattle.std.proofs.Common.{◌≡◌, ℕ, ◌<◌, ◌==◌, ◌&&◌, nat_lt, ℤ, pos, Bool, true, false, if◌then◌else◌, List, [], ◌∷◌, length, map, replicate, slice_set, Option, Some, None, refl, sym, ap, subst, ◌∙◌, inl, inr, arith}
 use Rattle.std.specs.List.{list_any, slice_index_or}
 use Rattle.std.proofs.lemmas.List.{length-map}
 use Rattle.std.proofs.lemmas.Bool.Decides.{eqb_tells, nat_tests}
@@ -8,35 +8,35 @@ use Rattle.mp5_words.specs.Cells.{word_at, cells_at, natural}
 use Rattle.mp5_words.specs.Domain.{Loads, word_ops, words}
 use Rattle.mp5_words.specs.Copies.{Copy}
 use Rattle.domino_tree.specs.declared.program.Program.{Program}
-use Rattle.domino_tree.specs.Value.{HasCells, Store, Array, names_of, cell_counts}
+use Rattle.domino_tree.specs.Value.{HasCells, Array, names_of}
 use Rattle.domino_tree.specs.Execution.{State}
 use Rattle.domino_check.specs.Numbering.{numbered_body}
-use Rattle.domino_check.specs.NumberedMeaning.{indexing, numbered_exec, executed_from}
+use Rattle.domino_check.specs.NumberedMeaning.{indexing, executed_from}
 use Rattle.code_forms.specs.declared.flat.Operand.{Operand}
 use Rattle.code_forms.specs.declared.flat.Operand.TheVariants as operand
 use Rattle.code_forms.specs.declared.flat.Instr.{Instr}
 use Rattle.code_forms.specs.declared.flat.Instr.TheVariants as instr
 use Rattle.code_forms.specs.declared.flat.FlatArray.{FlatArray}
-use Rattle.code_forms.specs.declared.guard.ArrayShape.{ArrayShape}
 use Rattle.code_forms.specs.declared.guard.GuardCode.{GuardCode}
 use Rattle.code_forms.specs.declared.parts.StagedGroup.{StagedGroup}
-use Rattle.code_forms.specs.FlatValid.{is_touched}
+use Rattle.code_forms.specs.FlatValid.{is_some, is_touched}
 use Rattle.code_forms.specs.FlatMeaning.{operand_value, flat_values, flat_length, index_operand, steps_of}
 use Rattle.code_forms.specs.GuardMeaning.{Guarded, length_at, indexes_of, guard_lines, guard_start}
-use Rattle.code_forms.specs.Staged.{Staged, Member, group_at, group_of, guards_of, slot_of_index, operand_word, stored_operand, share, unit_cell, unit_count, first_array, IsStaged}
+use Rattle.code_forms.specs.Staged.{Staged, Member, group_at, group_of, guards_of, slot_of_index, operand_word, stored_operand, unit_count, first_array}
 use Rattle.code_forms.specs.StagedMeaning.{Units, is_open, is_touching, place, place_on, header_words, unit_number, is_place, placed_word, loaded_word, staged_loads, staged_values, code_values, last_words, cells_after, units_after}
 use Rattle.branch_removal.specs.Kept.{copy_of, IsKept, run_lines, untouched, LoadsRight}
 use Rattle.branch_removal.specs.Kept as kept_forms
 use Rattle.ssa_flatten.specs.Flattened.{EndsAs, under_of, store_operand}
-use Rattle.code_forms.proofs.OrderLemmas.{in_order}
+use Rattle.code_forms.proofs.ValidLemmas.{and_front, and_back}
+use Rattle.code_forms.proofs.OrderLemmas.{length_replicate, in_order}
 use Rattle.code_forms.proofs.StagedLemmas.{fitting, lives}
 use Rattle.domino_compile.specs.MeaningKept.{in_unit, units_of, IsStagedOf, EndsAsSource, MeansSource}
-use Rattle.domino_compile.proofs.FrameLemmas.{Same, Clear, Within, After, Frames, exec_frames}
+use Rattle.domino_compile.proofs.FrameLemmas.{Same, Within, After, Frames, exec_frames}
 use Rattle.domino_compile.proofs.UnitsLemmas.{distinct, flat_same}
 use Rattle.domino_compile.proofs.MeaningLoads.{same_run}
-use Rattle.domino_compile.proofs.MeaningCopies.{lines_stay}
+use Rattle.domino_compile.proofs.MeaningCopies.{Stays, lines_stay}
 use Rattle.domino_compile.proofs.MeaningGroups.{group_has, array_there, group_touched, group_sized, index_value, cell_below, no_guards}
-use Rattle.domino_compile.proofs.MeaningRows.{zeros, set_same, word_set, word_other, row_long, row_past, kept_row, kept_rows, kept_at, kept_long, kept_counts, touched_any, any_mapped, guards_at, under_at, unit_word, unit_stores}
+use Rattle.domino_compile.proofs.MeaningRows.{zeros, set_same, word_other, row_long, row_past, kept_row, kept_rows, kept_at, kept_long, kept_counts, touched_any, any_mapped, guards_at, under_at, unit_word, unit_stores}
 
 -- ---- operands and places
 
@@ -150,6 +150,7 @@ module _ (p : Program) (g : GuardCode) (c : Staged) (is : IsStagedOf p g c) (hea
   away_row a i none = ap (λ r. word_at r i) (kept_at away cells a ∙ ap (λ (b : Bool). kept_row (nat_lt a count && b) (cells_at cells a)) none) ∙ cases (nat_lt a count) refl where
     past : nat_lt a count ≡ false → a < length cells → ⊥
     past t h = grind (arith, nat_tests, t, h, many)
+
     cases : (b : Bool) → nat_lt a count ≡ b → word_at (kept_row (b && true) (cells_at cells a)) i ≡ pos 0
     cases true t = zeros (length (cells_at cells a)) i
     cases false t = ap (λ r. word_at r i) (row_past cells a (past t))
@@ -175,6 +176,7 @@ module _ (p : Program) (g : GuardCode) (c : Staged) (is : IsStagedOf p g c) (hea
         unit_word (cells_at cells) (flat_length c.arrays) (group_at c h).arrays (member_long h there.0) (group_at c h).sharded u (index a) a there.1
         (λ sharded. index_own h a u there.0 there.1 placed sharded) (index_less h a there.0 there.1)
         ∙ ap (λ r. word_at r (index a)) (sym (placed_row a (not_away a u at)))
+
     by_group : (o : Option ℕ) → group_of c a ≡ o → loaded_word c units header o a (index a) ≡ loads a (index a)
     by_group None grouped = sym (away_row a (index a) (ap (λ o. is_none (place_in c header o)) grouped))
     by_group (Some h) grouped = by_place h grouped (place c header h) refl
@@ -190,14 +192,14 @@ module _ (p : Program) (g : GuardCode) (c : Staged) (is : IsStagedOf p g c) (hea
   ends =
       let flat = is.means (flat_length c.arrays) loads header (long ∙ is.fields) in
       let by_fields : EndsAs ℤ (operand_value ℤ (words (flat_length c.arrays) loads) (code_values c loads header)) c.arrays c.instrs c.last
-          (guard_lines ℤ (words (flat_length c.arrays) loads) (indexes_of ℤ word_ops g.arrays) g.lines (guard_start ℤ (words (flat_length c.arrays) loads) (length g.arrays) header)) =
-          subst (λ n. EndsAs ℤ (operand_value ℤ (words (flat_length c.arrays) loads) (flat_values ℤ (words (flat_length c.arrays) loads) n c.arrays c.instrs header)) c.arrays c.instrs c.last
-          (guard_lines ℤ (words (flat_length c.arrays) loads) (indexes_of ℤ word_ops g.arrays) g.lines (guard_start ℤ (words (flat_length c.arrays) loads) (length g.arrays) header))) (sym is.fields) flat in
+      (guard_lines ℤ (words (flat_length c.arrays) loads) (indexes_of ℤ word_ops g.arrays) g.lines (guard_start ℤ (words (flat_length c.arrays) loads) (length g.arrays) header)) =
+      subst (λ n. EndsAs ℤ (operand_value ℤ (words (flat_length c.arrays) loads) (flat_values ℤ (words (flat_length c.arrays) loads) n c.arrays c.instrs header)) c.arrays c.instrs c.last
+      (guard_lines ℤ (words (flat_length c.arrays) loads) (indexes_of ℤ word_ops g.arrays) g.lines (guard_start ℤ (words (flat_length c.arrays) loads) (length g.arrays) header))) (sym is.fields) flat in
       let by_lengths : EndsAs ℤ (operand_value ℤ (words (flat_length c.arrays) loads) (code_values c loads header)) c.arrays c.instrs c.last lines =
-          subst (λ n. EndsAs ℤ (operand_value ℤ (words (flat_length c.arrays) loads) (code_values c loads header)) c.arrays c.instrs c.last
-          (guard_lines ℤ (words n loads) (indexes_of ℤ word_ops g.arrays) g.lines (guard_start ℤ (words n loads) (length g.arrays) header))) lengths_same by_fields in
+      subst (λ n. EndsAs ℤ (operand_value ℤ (words (flat_length c.arrays) loads) (code_values c loads header)) c.arrays c.instrs c.last
+      (guard_lines ℤ (words n loads) (indexes_of ℤ word_ops g.arrays) g.lines (guard_start ℤ (words n loads) (length g.arrays) header))) lengths_same by_fields in
       let same : operand_value ℤ (words (flat_length c.arrays) loads) (code_values c loads header) ≡ operand_word vals =
-          λ i x. (operand_is (flat_length c.arrays) loads (code_values c loads header) x ∙ ap (λ env. operand_word env x) (sym values_same)) i in
+      λ i x. (operand_is (flat_length c.arrays) loads (code_values c loads header) x ∙ ap (λ env. operand_word env x) (sym values_same)) i in
       subst (λ value. EndsAs ℤ value c.arrays c.instrs c.last lines) same by_lengths
 
   zeroed_has : HasCells (names_of p) zeroed
@@ -225,11 +227,144 @@ module _ (p : Program) (g : GuardCode) (c : Staged) (is : IsStagedOf p g c) (hea
       clash : (n : ℕ) → None ≡ Some n → ⊥
       clash n e = cc
     absent false t grouped = ap (is_open vals) (no_guards c a t)
+
     by_group : (o : Option ℕ) → group_of c a ≡ o → is_none (place_in c header o) ≡ true → is_touching c vals a ≡ false
     by_group None grouped n = absent (is_touched c.arrays a) refl grouped
     by_group (Some h) grouped n =
         let there = group_has c a h grouped in
         is.unplaced header (staged_loads c units header) long h there.0 (missing (place c header h) n) a there.1 where
-      missing : (o : Option ℕ) → is_none o ≡ true → o ≡ None
-      missing None e = refl
-      missing (Some u) e = absurd (cc)
+          missing : (o : Option ℕ) → is_none o ≡ true → o ≡ None
+          missing None e = refl
+          missing (Some u) e = absurd (cc)
+
+  -- ---- 4. the source on the cells as they are
+
+  frames : Frames away (executed_from p)
+  frames = subst (Frames away) (λ i st. is.executes st i) (exec_frames away (indexing p) (numbered_body p))
+
+  all_within : Within away (replicate count false)
+  all_within a t =
+      let less : nat_lt a count ≡ true = and_front (nat_lt a count) (is_none (place_in c header (group_of c a))) t in
+      let marks : length (replicate count false) ≡ count = length_replicate count false in
+      grind (arith, nat_tests, less, marks)
+
+  same_store : Same away (untouched p header zeroed).store (untouched p header cells).store
+  same_store = record { fields = refl; long = kept_long away cells; cells = placed_row }
+
+  nowhere : (a : ℕ) → away a ≡ true → is_touching c vals a ≡ false
+  nowhere a t = away_untouched a (and_back (nat_lt a count) (is_none (place_in c header (group_of c a))) t)
+
+  framed : After away (executed_from p) (untouched p header zeroed) (untouched p header cells)
+  framed = frames.after (untouched p header zeroed) (untouched p header cells) same_store refl all_within (λ a t. sym (touched_zeroed a) ∙ nowhere a t)
+
+  touched_same : (a : ℕ) → is_touching c vals a ≡ slice_index_or done.touched a false
+  touched_same a = touched_zeroed a ∙ ap (λ l. slice_index_or l a false) framed.touched
+
+  left : After away (executed_from p) (untouched p header cells) (untouched p header cells)
+  left = frames.after (untouched p header cells) (untouched p header cells) (record { fields = refl; long = refl; cells = λ a t. refl }) refl all_within (λ a t. sym (touched_same a) ∙ nowhere a t)
+
+  fields_same : last_words c vals ≡ done.store.fields
+  fields_same = ends.fields ∙ kept.fields ∙ framed.store.fields
+
+  -- ---- the cells afterwards
+
+  placed_cells : (a : ℕ) → away a ≡ false → cells_at done.store.cells a ≡ kept_forms.cells_after (length_at g.arrays a) (cells_at cells a) (copy_of lines a)
+  placed_cells a there = sym (framed.store.cells a there) ∙ kept.cells_are a ∙ ap (λ r. kept_forms.cells_after (length_at g.arrays a) r (copy_of lines a)) (placed_row a there)
+
+  -- an array that isn't touched keeps its cells
+  still : (a : ℕ) → is_touching c vals a ≡ false → cells_at done.store.cells a ≡ cells_at cells a
+  still a none = cases (away a) refl where
+    closed : (o : Option (Copy ℤ)) → kept_forms.is_touched o ≡ false → (row : List ℤ) → kept_forms.cells_after (length_at g.arrays a) row o ≡ row
+    closed None t row = refl
+    closed (Some k) t row = ap (λ (b : Bool). if b then slice_set row (cell k.index (length_at g.arrays a)) k.latest else row) t
+
+    cases : (b : Bool) → away a ≡ b → cells_at done.store.cells a ≡ cells_at cells a
+    cases true t = left.kept a t
+    cases false t = placed_cells a t ∙ closed (copy_of lines a) (sym (touching_any a) ∙ none) (cells_at cells a)
+
+  -- the word that an array's Store writes
+  abbrev stored : ℕ → ℤ
+  stored a = operand_word vals (stored_operand c.instrs a)
+
+  no_map : (xs : List Operand) → is_some xs ≡ true → map (operand_word vals) xs ≡ [] → ⊥
+  no_map [] some e = cc
+  no_map (x ∷ xs) some e = cc
+
+  -- an array of a group with a place has its Store's word in the cell of its Index
+  row_after : (h a u : ℕ) → h < length c.groups → Member a (group_at c h).arrays → place c header h ≡ Some u → cells_at done.store.cells a ≡ slice_set (cells_at cells a) (index a) (stored a)
+  row_after h a u below m placed = placed_cells a there ∙ by_copy (copy_of lines a) refl where
+    there : away a ≡ false
+    there = not_away a u (ap (place_in c header) ((is.staged.groups h below).there a m).1 ∙ placed)
+
+    row : List ℤ
+    row = cells_at cells a
+
+    by_copy : (o : Option (Copy ℤ)) → copy_of lines a ≡ o → kept_forms.cells_after (length_at g.arrays a) (cells_at cells a) o ≡ slice_set (cells_at cells a) (index a) (stored a)
+    by_copy None e = absurd (no_map (guards_of c.arrays a) (group_touched c is.staged h a below m) (under a ∙ ap under_of e))
+    by_copy (Some k) e = by_guards (list_any truth k.under) refl where
+      operand_index : operand_value ℤ (words (flat_length c.arrays) (staged_loads c units header)) vals (index_operand c.instrs a) ≡ k.index
+      operand_index = operand_is (flat_length c.arrays) (staged_loads c units header) vals (index_operand c.instrs a) ∙ ends.index a k e
+
+      at : index a ≡ cell k.index (length_at g.arrays a)
+      at = ap natural (index_value c is.staged h a below m (staged_loads c units header) header long) ∙ (λ i. cell (operand_index i) (lengths_same i a))
+
+      latest : stored a ≡ k.latest
+      latest = ap (operand_word vals) (sym (stored_is c.instrs a)) ∙ ends.stored a k e
+
+      unloaded : list_any truth k.under ≡ false → k.latest ≡ loads a (cell k.index (length_at g.arrays a))
+      unloaded = subst (Stays (length_at g.arrays) loads (indexes_of ℤ word_ops g.arrays) a) e (lines_stay (length_at g.arrays) loads (indexes_of ℤ word_ops g.arrays) g.lines (length g.arrays) header a)
+
+      by_guards : (b : Bool) → list_any truth k.under ≡ b
+          → (if b then slice_set (cells_at cells a) (cell k.index (length_at g.arrays a)) k.latest else cells_at cells a) ≡ slice_set (cells_at cells a) (index a) (stored a)
+      by_guards true t = λ i. slice_set (cells_at cells a) (sym at i) (sym latest i)
+      by_guards false t =
+          let word : stored a ≡ word_at (cells_at cells a) (index a) = latest ∙ unloaded t ∙ (λ i. word_at (placed_row a there i) (sym at i)) in
+          sym (ap (slice_set (cells_at cells a) (index a)) word ∙ set_same (cells_at cells a) (index a))
+
+  -- each unit is that of the execution's cells
+  unit_same : (h u : ℕ) → h < length c.groups → u < unit_count c (group_at c h) → units_after c units header h u ≡ units_of c done.store.cells h u
+  unit_same h u below less = by_place (place c header h) refl where
+    other : (v : ℕ) → place c header h ≡ Some v → (v ≡ u → ⊥) → units_of c cells h u ≡ units_of c done.store.cells h u
+    other v placed apart =
+        flat_same (λ a. in_unit (group_at c h) u (cells_at cells a)) (λ a. in_unit (group_at c h) u (cells_at done.store.cells a)) (group_at c h).arrays (λ a m. each a m (group_at c h).sharded refl) where
+          each : (a : ℕ) → Member a (group_at c h).arrays → (s : Bool) → (group_at c h).sharded ≡ s
+              → (if s then word_at (cells_at cells a) u ∷ [] else cells_at cells a) ≡ (if s then word_at (cells_at done.store.cells a) u ∷ [] else cells_at done.store.cells a)
+          each a m true sharded =
+              ap (λ z. z ∷ []) (sym (ap (λ r. word_at r u) (row_after h a v below m placed) ∙ word_other (cells_at cells a) (index a) u (stored a) (λ e. apart (sym (index_own h a v below m placed sharded) ∙ e))))
+          each a m false whole =
+              let zero : v ≡ 0 = zero_place c (header_words c header) (group_at c h) v whole placed in
+              let one : u < 1 = subst (λ (b : Bool). u < (if b then flat_length c.arrays (first_array (group_at c h)) else 1)) whole less in
+              absurd (apart (omega (arith, zero, one)))
+
+    here : (v : ℕ) → place c header h ≡ Some v → v ≡ u → cells_after c vals (group_at c h) (units_of c cells h u) ≡ units_of c done.store.cells h u
+    here v placed same =
+        unit_stores (cells_at cells) (flat_length c.arrays) (group_at c h).arrays (member_long h below) (group_at c h).sharded u index stored (distinct 0 (group_at c h).arrays (is.staged.groups h below).rising)
+        (λ a m sharded. index_own h a v below m placed sharded ∙ same) (λ a m. index_less h a below m)
+        ∙ flat_same (λ a. in_unit (group_at c h) u (slice_set (cells_at cells a) (index a) (stored a))) (λ a. in_unit (group_at c h) u (cells_at done.store.cells a)) (group_at c h).arrays
+        (λ a m. ap (in_unit (group_at c h) u) (sym (row_after h a v below m placed)))
+
+    by_place : (o : Option ℕ) → place c header h ≡ o → (if is_place o u then cells_after c vals (group_at c h) (units_of c cells h u) else units_of c cells h u) ≡ units_of c done.store.cells h u
+    by_place None placed =
+        flat_same (λ a. in_unit (group_at c h) u (cells_at cells a)) (λ a. in_unit (group_at c h) u (cells_at done.store.cells a)) (group_at c h).arrays
+        (λ a m. ap (in_unit (group_at c h) u) (sym (still a (is.unplaced header (staged_loads c units header) long h below placed a m))))
+    by_place (Some v) placed = elim (eqb_tells v u) [
+      | inl t ↦ ap (λ (b : Bool). if b then cells_after c vals (group_at c h) (units_of c cells h u) else units_of c cells h u) t.0 ∙ here v placed t.1
+      | inr t ↦ ap (λ (b : Bool). if b then cells_after c vals (group_at c h) (units_of c cells h u) else units_of c cells h u) t.0 ∙ other v placed t.1
+    ]
+
+  -- ---- all of it
+
+  pub ends_as_source : EndsAsSource c header cells (staged_values c (units_of c cells) header) (executed_from p (untouched p header cells))
+  ends_as_source = record {
+    fields = fields_same;
+    units = unit_same;
+    touched = touched_same;
+    unplaced = λ h a below m placed. sym (touched_same a) ∙ is.unplaced header (staged_loads c units header) long h below placed a m;
+    ungrouped = λ a none.
+        let out : is_touching c vals a ≡ false = away_untouched a (ap (λ o. is_none (place_in c header o)) none) in
+        (sym (touched_same a) ∙ out, still a out);
+  }
+
+-- on every header and all cells staged code ends as the source does
+pub means_source : (p : Program) (g : GuardCode) (c : Staged) → IsStagedOf p g c → MeansSource p c
+means_source p g c is header cells long has = ends_as_source p g c is header cells long has
