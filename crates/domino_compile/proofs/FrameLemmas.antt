@@ -1,6 +1,7 @@
 -- An execution that touches none of some arrays doesn't look at their cells, and leaves them as they are.
 use Rattle.std.proofs.Common.{◌≡◌, ℕ, zero, suc, ℤ, ◌<◌, Bool, true, false, if◌then◌else◌, List, [], ◌∷◌, ◌++◌, length, map, flat_map, get_or, slice_set, Option, Some, None, refl, sym, ap, ◌∙◌, subst, arith}
 use Rattle.std.specs.List.{slice_index_or}
+use Rattle.std.proofs.lemmas.List.{get_or-set_same, get_or-set_other, length-set}
 use Rattle.mp5_words.specs.Words.{op1, op2, truth}
 use Rattle.mp5_words.specs.Cells.{word_at, cells_at, picked, hash_all, touching}
 use Rattle.domino_tree.specs.Value.{Store}
@@ -33,29 +34,12 @@ module _ (T : ℕ → Bool) where
   abbrev pub Within : List Bool → Type 0
   Within marks = (a : ℕ) → T a ≡ true → a < length marks
 
-  get_set : {A : Type 0} (xs : List A) (i : ℕ) (x d : A) → i < length xs → get_or (slice_set xs i x) i d ≡ x
-  get_set [] i x d w = absurd (omega arith)
-  get_set (y ∷ xs) zero x d w = refl
-  get_set (y ∷ xs) (suc i) x d w = get_set xs i x d (omega arith)
-
-  get_other : {A : Type 0} (xs : List A) (i k : ℕ) (x d : A) → (k ≡ i → ⊥) → get_or (slice_set xs i x) k d ≡ get_or xs k d
-  get_other [] i k x d w = refl
-  get_other (y ∷ xs) zero zero x d w = absurd (w refl)
-  get_other (y ∷ xs) zero (suc k) x d w = refl
-  get_other (y ∷ xs) (suc i) zero x d w = refl
-  get_other (y ∷ xs) (suc i) (suc k) x d w = get_other xs i k x d (λ e. w (ap suc e))
-
-  length_set : {A : Type 0} (xs : List A) (i : ℕ) (x : A) → length (slice_set xs i x) ≡ length xs
-  length_set [] i x = refl
-  length_set (y ∷ xs) zero x = refl
-  length_set (y ∷ xs) (suc i) x = ap suc (length_set xs i x)
-
   apart : (a b : ℕ) → T a ≡ false → T b ≡ true → b ≡ a → ⊥
   apart a b f t e = let p : true ≡ false = sym t ∙ ap T e ∙ f in cc
 
   touching_long : (arrays : List ℕ) (marks : List Bool) → length (touching arrays marks) ≡ length marks
   touching_long [] marks = refl
-  touching_long (a ∷ arrays) marks = touching_long arrays (slice_set marks a true) ∙ length_set marks a true
+  touching_long (a ∷ arrays) marks = touching_long arrays (slice_set marks a true) ∙ length-set marks a true
 
   within_along : (m n : List Bool) → length m ≡ length n → Within n → Within m
   within_along m n e w a t = let h = w a t in omega (arith, h, e)
@@ -64,12 +48,12 @@ module _ (T : ℕ → Bool) where
   free : (arrays : List ℕ) (marks : List Bool) → Within marks → Clear (touching arrays marks) → Free arrays × Clear marks
   free [] marks w c = (tt, c)
   free (a ∷ arrays) marks w c =
-      let r = free arrays (slice_set marks a true) (within_along (slice_set marks a true) marks (length_set marks a true) w) c in
+      let r = free arrays (slice_set marks a true) (within_along (slice_set marks a true) marks (length-set marks a true) w) c in
       let out : T a ≡ false = not_of (T a) refl r.1 in
-      ((out, r.0), λ b t. sym (get_other marks a b true false (apart a b out t)) ∙ r.1 b t) where
+      ((out, r.0), λ b t. sym (get_or-set_other marks a b true false (apart a b out t)) ∙ r.1 b t) where
         not_of : (b : Bool) → T a ≡ b → Clear (slice_set marks a true) → T a ≡ false
         not_of false e k = e
-        not_of true e k = let p : true ≡ false = sym (get_set marks a true false (w a e)) ∙ k a e in cc
+        not_of true e k = let p : true ≡ false = sym (get_or-set_same marks a true false (w a e)) ∙ k a e in cc
 
   -- ---- what an execution does
 
@@ -206,11 +190,11 @@ module _ (T : ℕ → Bool) where
           record {
             store = record {
               fields = s.fields;
-              long = length_set st.store.cells a _ ∙ s.long ∙ sym (length_set st'.store.cells a _);
+              long = length-set st.store.cells a _ ∙ s.long ∙ sym (length-set st'.store.cells a _);
               cells = λ b f. set_both st.store.cells st'.store.cells a b _ _ s.long (s.cells b f) row;
             };
             touched = ap (touching (a ∷ numbered_arrays e)) t;
-            kept = λ b k. get_other st.store.cells a b _ [] (apart a b fr.0 k);
+            kept = λ b k. get_or-set_other st.store.cells a b _ [] (apart a b fr.0 k);
           };
     } where
       set_both : (xs ys : List (List ℤ)) (a b : ℕ) (x y : List ℤ) → length xs ≡ length ys → get_or xs b [] ≡ get_or ys b [] → x ≡ y → get_or (slice_set xs a x) b [] ≡ get_or (slice_set ys a y) b []

@@ -1,6 +1,7 @@
 -- Facts on lists of cells and of what is known of arrays.
 use Rattle.std.proofs.Common.{◌≡◌, ℕ, zero, suc, ◌+◌, ◌<◌, ◌||◌, ℤ, pos, Bool, true, false, if◌then◌else◌, List, [], ◌∷◌, length, map, flat_map, fold, replicate, slice_set, Option, Some, None, refl, sym, ap, subst, ◌∙◌, arith}
 use Rattle.std.specs.List.{list_any, slice_index_or}
+use Rattle.std.proofs.lemmas.List.{get_or-set_same}
 use Rattle.mp5_words.specs.Words.{truth}
 use Rattle.mp5_words.specs.Cells.{word_at, cells_at}
 use Rattle.mp5_words.specs.Copies.{Copy}
@@ -16,34 +17,11 @@ zeros zero i = refl
 zeros (suc n) zero = refl
 zeros (suc n) (suc i) = zeros n i
 
-pub set_same : (row : List ℤ) (i : ℕ) → slice_set row i (word_at row i) ≡ row
-set_same [] i = refl
-set_same (x ∷ row) zero = refl
-set_same (x ∷ row) (suc i) = ap (λ l. x ∷ l) (set_same row i)
-
-pub word_set : (row : List ℤ) (i : ℕ) (x : ℤ) → i < length row → word_at (slice_set row i x) i ≡ x
-word_set [] i x w = absurd (omega (arith, w))
-word_set (y ∷ row) zero x w = refl
-word_set (y ∷ row) (suc i) x w = word_set row i x (omega (arith, w))
-
-pub word_other : (row : List ℤ) (i k : ℕ) (x : ℤ) → (i ≡ k → ⊥) → word_at (slice_set row i x) k ≡ word_at row k
-word_other [] i k x w = refl
-word_other (y ∷ row) zero zero x w = absurd (w refl)
-word_other (y ∷ row) zero (suc k) x w = refl
-word_other (y ∷ row) (suc i) zero x w = refl
-word_other (y ∷ row) (suc i) (suc k) x w = word_other row i k x (λ e. w (ap suc e))
-
 -- how long an array's cells are
 pub row_long : (rows : List (List ℤ)) (a : ℕ) → a < length rows → length (cells_at rows a) ≡ slice_index_or (map (λ (r : List ℤ). length r) rows) a 1
 row_long [] a w = absurd (omega (arith, w))
 row_long (r ∷ rows) zero w = refl
 row_long (r ∷ rows) (suc a) w = row_long rows a (omega (arith, w))
-
--- past them all there are none
-pub row_past : (rows : List (List ℤ)) (a : ℕ) → (a < length rows → ⊥) → cells_at rows a ≡ []
-row_past [] a w = refl
-row_past (r ∷ rows) zero w = absurd (w (omega arith))
-row_past (r ∷ rows) (suc a) w = row_past rows a (λ h. w (omega (arith, h)))
 
 -- ---- some cells are 0
 
@@ -118,6 +96,6 @@ module _ (rows : ℕ → List ℤ) (lengths : ℕ → ℕ) (arrays : List ℕ) (
       ∙ flat_same (λ a. value a ∷ []) (λ a. word_at (slice_set (rows a) (index a) (value a)) u ∷ []) arrays
       (λ a m.
       let within : index a < length (rows a) = subst (λ n. index a < n) (sym (long a m)) (less a m) in
-      ap (λ z. z ∷ []) (sym (word_set (rows a) (index a) (value a) within) ∙ ap (word_at (slice_set (rows a) (index a) (value a))) (own a m refl)))
+      ap (λ z. z ∷ []) (sym (get_or-set_same (rows a) (index a) (value a) (pos 0) within) ∙ ap (word_at (slice_set (rows a) (index a) (value a))) (own a m refl)))
   unit_stores false u index value apart own less =
       stores rows lengths (λ a. cells_before lengths arrays a + index a) index value arrays [] apart long less (λ a m. omega arith)

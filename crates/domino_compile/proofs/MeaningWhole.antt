@@ -1,7 +1,7 @@
 -- Staged code on the units of any cells ends as the source does on these cells.
-use Rattle.std.proofs.Common.{◌≡◌, ℕ, ◌<◌, ◌==◌, ◌&&◌, nat_lt, ℤ, pos, Bool, true, false, if◌then◌else◌, List, [], ◌∷◌, length, map, replicate, slice_set, Option, Some, None, refl, sym, ap, subst, ◌∙◌, inl, inr, arith}
+use Rattle.std.proofs.Common.{◌≡◌, ℕ, ◌<◌, ◌≤◌, ◌==◌, ◌&&◌, nat_lt, ℤ, pos, Bool, true, false, if◌then◌else◌, List, [], ◌∷◌, length, map, replicate, slice_set, Option, Some, None, refl, sym, ap, subst, ◌∙◌, inl, inr, arith}
 use Rattle.std.specs.List.{list_any, slice_index_or}
-use Rattle.std.proofs.lemmas.List.{length-map}
+use Rattle.std.proofs.lemmas.List.{length-map, get_or_past, set-get_or, get_or-set_other}
 use Rattle.std.proofs.lemmas.Bool.Decides.{eqb_tells, nat_tests}
 use Rattle.mp5_words.specs.Words.{truth, cell}
 use Rattle.mp5_words.specs.Cells.{word_at, cells_at, natural}
@@ -17,6 +17,7 @@ use Rattle.code_forms.specs.declared.flat.Operand.TheVariants as operand
 use Rattle.code_forms.specs.declared.flat.Instr.{Instr}
 use Rattle.code_forms.specs.declared.flat.Instr.TheVariants as instr
 use Rattle.code_forms.specs.declared.flat.FlatArray.{FlatArray}
+use Rattle.code_forms.specs.declared.guard.ArrayShape.{ArrayShape}
 use Rattle.code_forms.specs.declared.guard.GuardCode.{GuardCode}
 use Rattle.code_forms.specs.declared.parts.StagedGroup.{StagedGroup}
 use Rattle.code_forms.specs.FlatValid.{is_some, is_touched}
@@ -30,13 +31,15 @@ use Rattle.ssa_flatten.specs.Flattened.{EndsAs, under_of, store_operand}
 use Rattle.code_forms.proofs.ValidLemmas.{and_front, and_back}
 use Rattle.code_forms.proofs.OrderLemmas.{length_replicate, in_order}
 use Rattle.code_forms.proofs.StagedLemmas.{fitting, lives}
+use Rattle.branch_removal.proofs.ShapeLemmas.{shapes_long, length_same}
+use Rattle.domino_names.proofs.InfoLemmas.{length-infos}
 use Rattle.domino_compile.specs.MeaningKept.{in_unit, units_of, IsStagedOf, EndsAsSource, MeansSource}
 use Rattle.domino_compile.proofs.FrameLemmas.{Same, Within, After, Frames, exec_frames}
 use Rattle.domino_compile.proofs.UnitsLemmas.{distinct, flat_same}
 use Rattle.domino_compile.proofs.MeaningLoads.{same_run}
 use Rattle.domino_compile.proofs.MeaningCopies.{Stays, lines_stay}
 use Rattle.domino_compile.proofs.MeaningGroups.{group_has, array_there, group_touched, group_sized, index_value, cell_below, no_guards}
-use Rattle.domino_compile.proofs.MeaningRows.{zeros, set_same, word_other, row_long, row_past, kept_row, kept_rows, kept_at, kept_long, kept_counts, touched_any, any_mapped, guards_at, under_at, unit_word, unit_stores}
+use Rattle.domino_compile.proofs.MeaningRows.{zeros, row_long, kept_row, kept_rows, kept_at, kept_long, kept_counts, touched_any, any_mapped, guards_at, under_at, unit_word, unit_stores}
 
 -- ---- operands and places
 
@@ -117,14 +120,15 @@ module _ (p : Program) (g : GuardCode) (c : Staged) (is : IsStagedOf p g c) (hea
   lengths_same : flat_length c.arrays ≡ length_at g.arrays
   lengths_same = λ i a. slice_index_or (is.arrays.lengths i) a 1
 
-  counts_same : map (λ (r : List ℤ). length r) cells ≡ map (λ (f : FlatArray). f.length) c.arrays
-  counts_same = has ∙ sym is.lengths ∙ sym is.arrays.lengths
-
   arrays_many : length c.arrays ≡ length cells
-  arrays_many = sym (length-map c.arrays (λ (f : FlatArray). f.length)) ∙ ap length (sym counts_same) ∙ length-map cells (λ (r : List ℤ). length r)
+  arrays_many =
+      sym (length-map c.arrays (λ (f : FlatArray). f.length)) ∙ ap length is.arrays.lengths ∙ length-map g.arrays (λ (s : ArrayShape). s.length)
+      ∙ ap (λ (l : List ArrayShape). length l) is.shapes ∙ shapes_long p ∙ length-infos p ∙ sym many
 
   row_length : (a : ℕ) → a < length c.arrays → length (cells_at cells a) ≡ flat_length c.arrays a
-  row_length a below = row_long cells a (subst (λ n. a < n) arrays_many below) ∙ ap (λ l. slice_index_or l a 1) counts_same
+  row_length a below =
+      row_long cells a (subst (λ n. a < n) arrays_many below) ∙ ap (λ l. slice_index_or l a 1) has
+      ∙ sym (ap (λ l. length_at l a) is.shapes ∙ length_same p a) ∙ sym (ap (λ l. slice_index_or l a 1) is.arrays.lengths)
 
   -- ---- 1. the values are those of flat code on the zeroed cells
 
@@ -148,12 +152,12 @@ module _ (p : Program) (g : GuardCode) (c : Staged) (is : IsStagedOf p g c) (hea
 
   away_row : (a i : ℕ) → is_none (place_in c header (group_of c a)) ≡ true → loads a i ≡ pos 0
   away_row a i none = ap (λ r. word_at r i) (kept_at away cells a ∙ ap (λ (b : Bool). kept_row (nat_lt a count && b) (cells_at cells a)) none) ∙ cases (nat_lt a count) refl where
-    past : nat_lt a count ≡ false → a < length cells → ⊥
-    past t h = grind (arith, nat_tests, t, h, many)
+    past : nat_lt a count ≡ false → length cells ≤ a
+    past t = grind (arith, nat_tests, t, many)
 
     cases : (b : Bool) → nat_lt a count ≡ b → word_at (kept_row (b && true) (cells_at cells a)) i ≡ pos 0
     cases true t = zeros (length (cells_at cells a)) i
-    cases false t = ap (λ r. word_at r i) (row_past cells a (past t))
+    cases false t = ap (λ r. word_at r i) (get_or_past cells a [] (past t))
 
   and_false : (b : Bool) → (b && false) ≡ false
   and_false true = refl
@@ -232,7 +236,7 @@ module _ (p : Program) (g : GuardCode) (c : Staged) (is : IsStagedOf p g c) (hea
     by_group None grouped n = absent (is_touched c.arrays a) refl grouped
     by_group (Some h) grouped n =
         let there = group_has c a h grouped in
-        is.unplaced header (staged_loads c units header) long h there.0 (missing (place c header h) n) a there.1 where
+        is.unplaced (staged_loads c units header) header long h a there.0 (missing (place c header h) n) there.1 where
           missing : (o : Option ℕ) → is_none o ≡ true → o ≡ None
           missing None e = refl
           missing (Some u) e = absurd (cc)
@@ -319,7 +323,7 @@ module _ (p : Program) (g : GuardCode) (c : Staged) (is : IsStagedOf p g c) (hea
       by_guards true t = λ i. slice_set (cells_at cells a) (sym at i) (sym latest i)
       by_guards false t =
           let word : stored a ≡ word_at (cells_at cells a) (index a) = latest ∙ unloaded t ∙ (λ i. word_at (placed_row a there i) (sym at i)) in
-          sym (ap (slice_set (cells_at cells a) (index a)) word ∙ set_same (cells_at cells a) (index a))
+          sym (ap (slice_set (cells_at cells a) (index a)) word ∙ set-get_or (cells_at cells a) (index a) (pos 0))
 
   -- each unit is that of the execution's cells
   unit_same : (h u : ℕ) → h < length c.groups → u < unit_count c (group_at c h) → units_after c units header h u ≡ units_of c done.store.cells h u
@@ -330,7 +334,7 @@ module _ (p : Program) (g : GuardCode) (c : Staged) (is : IsStagedOf p g c) (hea
           each : (a : ℕ) → Member a (group_at c h).arrays → (s : Bool) → (group_at c h).sharded ≡ s
               → (if s then word_at (cells_at cells a) u ∷ [] else cells_at cells a) ≡ (if s then word_at (cells_at done.store.cells a) u ∷ [] else cells_at done.store.cells a)
           each a m true sharded =
-              ap (λ z. z ∷ []) (sym (ap (λ r. word_at r u) (row_after h a v below m placed) ∙ word_other (cells_at cells a) (index a) u (stored a) (λ e. apart (sym (index_own h a v below m placed sharded) ∙ e))))
+              ap (λ z. z ∷ []) (sym (ap (λ r. word_at r u) (row_after h a v below m placed) ∙ get_or-set_other (cells_at cells a) (index a) u (stored a) (pos 0) (λ e. apart (sym (index_own h a v below m placed sharded) ∙ sym e))))
           each a m false whole =
               let zero : v ≡ 0 = zero_place c (header_words c header) (group_at c h) v whole placed in
               let one : u < 1 = subst (λ (b : Bool). u < (if b then flat_length c.arrays (first_array (group_at c h)) else 1)) whole less in
@@ -346,7 +350,7 @@ module _ (p : Program) (g : GuardCode) (c : Staged) (is : IsStagedOf p g c) (hea
     by_place : (o : Option ℕ) → place c header h ≡ o → (if is_place o u then cells_after c vals (group_at c h) (units_of c cells h u) else units_of c cells h u) ≡ units_of c done.store.cells h u
     by_place None placed =
         flat_same (λ a. in_unit (group_at c h) u (cells_at cells a)) (λ a. in_unit (group_at c h) u (cells_at done.store.cells a)) (group_at c h).arrays
-        (λ a m. ap (in_unit (group_at c h) u) (sym (still a (is.unplaced header (staged_loads c units header) long h below placed a m))))
+        (λ a m. ap (in_unit (group_at c h) u) (sym (still a (is.unplaced (staged_loads c units header) header long h a below placed m))))
     by_place (Some v) placed = elim (eqb_tells v u) [
       | inl t ↦ ap (λ (b : Bool). if b then cells_after c vals (group_at c h) (units_of c cells h u) else units_of c cells h u) t.0 ∙ here v placed t.1
       | inr t ↦ ap (λ (b : Bool). if b then cells_after c vals (group_at c h) (units_of c cells h u) else units_of c cells h u) t.0 ∙ other v placed t.1
@@ -359,7 +363,7 @@ module _ (p : Program) (g : GuardCode) (c : Staged) (is : IsStagedOf p g c) (hea
     fields = fields_same;
     units = unit_same;
     touched = touched_same;
-    unplaced = λ h a below m placed. sym (touched_same a) ∙ is.unplaced header (staged_loads c units header) long h below placed a m;
+    unplaced = λ h a below m placed. sym (touched_same a) ∙ is.unplaced (staged_loads c units header) header long h a below placed m;
     ungrouped = λ a none.
         let out : is_touching c vals a ≡ false = away_untouched a (ap (λ o. is_none (place_in c header o)) none) in
         (sym (touched_same a) ∙ out, still a out);
