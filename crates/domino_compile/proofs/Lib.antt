@@ -5,3 +5,4 @@ pub mod MeaningCopies
 pub mod MeaningGroups
 pub mod MeaningRows
 pub mod MeaningWhole
+pub mod MeaningStart
