@@ -1,3 +1,4 @@
+pub mod Walking
 pub mod Views
 pub mod State
 pub mod Marks
