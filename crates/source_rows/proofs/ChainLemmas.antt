@@ -6,6 +6,7 @@ use Rattle.domino_tree.specs.declared.program.Program.{Program}
 use Rattle.domino_check.specs.declared.numbered.CheckedStmt.{CheckedStmt, fold-roll-CheckedStmt}
 use Rattle.domino_check.specs.declared.numbered.CheckedStmt.TheOpen as O
 use Rattle.domino_check.specs.declared.numbered.CheckedStmt.TheVariants as s
+use Rattle.domino_check.specs.declared.numbered.CheckedExpr.{CheckedExpr}
 use Rattle.domino_check.specs.declared.numbered.CheckedArm.{CheckedArm, fold-roll-CheckedArm}
 use Rattle.domino_tree.specs.Value.{names_of}
 use Rattle.domino_names.specs.Infos.{infos_of}
@@ -13,7 +14,7 @@ use Rattle.domino_check.specs.Numbering.{numbered_body}
 use Rattle.domino_check.specs.SourceWalk.{walked_program}
 use Rattle.domino_names.proofs.InfoLemmas.{length-infos}
 use Rattle.domino_check.specs.Walk.{Core, Branch, Walks, chain, walking, branching}
-use Rattle.source_rows.specs.Walking.{Copies, core, indexes_in, stmt_walk, block_walk, arm_branch, chain_walk, last_in, guard_in, arm_touched, arm_cond}
+use Rattle.source_rows.specs.Walking.{Copies, core, indexes_in, stmt_walk, block_walk, arm_branch, chain_walk, last_in, guard_in, arm_touched, arm_cond, cell_walk}
 
 pub drop_next : {A : Type 0} (xs : List A) (i : ℕ) (x : A) → i < length xs → x ≡ get_or xs i x → drop i xs ≡ x ∷ drop (i + 1) xs
 drop_next xs i x within here = drop_more xs i x within ∙ ap (λ y. y ∷ drop (i + 1) xs) (sym here)
@@ -24,6 +25,12 @@ module _ (V : Type 0) (d : Domain V) (p : Program) where
 
   pub walk-Else : (arms : List CheckedArm) (body : List CheckedStmt) → stmt_walk V d p (s.If arms (Some body)) ≡ chain_walk V d p arms (Some (map (stmt_walk V d p) body))
   walk-Else arms body = ap (stmt_walk V d p) (sym (s.rolls-If arms (Some body))) ∙ fold-roll-CheckedStmt (Walks V) (Branch V) (walking V d (indexes_in V d p)) (branching V d (indexes_in V d p)) (O.CheckedStmt-F.If arms (Some body))
+
+  -- an assignment to a cell
+  pub cell_stmt : (stmt : CheckedStmt) (a : ℕ) (e expr : CheckedExpr) (context : Option V) (t : Core V) → stmt ≡ s.SetCell a e → expr ≡ e → cell_walk V d p a expr context t ≡ stmt_walk V d p stmt context t
+  cell_stmt stmt a e expr context t is read =
+      ap (λ x. cell_walk V d p a x context t) read
+      ∙ sym (ap (λ (w : Walks V). w context t) (ap (stmt_walk V d p) (is ∙ sym (s.rolls-SetCell a e)) ∙ fold-roll-CheckedStmt (Walks V) (Branch V) (walking V d (indexes_in V d p)) (branching V d (indexes_in V d p)) (O.CheckedStmt-F.SetCell a e)))
 
   -- an arm, and the arms behind it
   pub chain_next : (arm : CheckedArm) (arms : List CheckedArm) (last : Option (List (Walks V))) (context : Option V) (t : Core V)

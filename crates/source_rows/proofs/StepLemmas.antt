@@ -1,17 +1,18 @@
 -- One step of a walk: a touch, an assignment, a hash.
-use Rattle.std.proofs.Common.{◌≡◌, ℕ, List, ◌∷◌, map, slice_set, Option, None, Some, sym, ap, ◌∙◌}
+use Rattle.std.proofs.Common.{◌≡◌, ℕ, ◌+◌, ◌<◌, List, ◌∷◌, length, map, drop, get_or, slice_set, Option, None, Some, sym, ap, ◌∙◌}
 use Rattle.std.specs.List.{slice_index_or}
-use Rattle.std.proofs.lemmas.List.{set-set}
-use Rattle.mp5_words.specs.Copies.{Copy, Seen, touched, hash_of}
+use Rattle.std.proofs.lemmas.List.{set-set, drop_more}
+use Rattle.mp5_words.specs.Copies.{Copy, Seen, at, touched, hash_of}
 use Rattle.mp5_words.specs.Domain.{Domain}
 use Rattle.mp5_words.specs.declared.hashing.HashKind.{HashKind}
 use Rattle.domino_tree.specs.declared.program.Program.{Program}
 use Rattle.domino_check.specs.declared.numbered.CheckedExpr.{CheckedExpr, fold-roll-CheckedExpr}
+use Rattle.domino_check.specs.declared.numbered.CheckedArm.{CheckedArm}
 use Rattle.domino_check.specs.declared.numbered.CheckedExpr.TheOpen as F
 use Rattle.domino_check.specs.declared.numbered.CheckedExpr.TheVariants as e
 use Rattle.domino_check.specs.NumberedMeaning.{numbered_arrays}
 use Rattle.domino_check.specs.Walk.{Core, walk_meaning, walk_value}
-use Rattle.source_rows.specs.Walking.{Copies, seen, core, indexes_in, touching, touching_all, guard_in, cell_walk, stored_value}
+use Rattle.source_rows.specs.Walking.{Copies, seen, core, indexes_in, touching, touching_all, guard_in, arm_touched, arm_cond, field_walk, cell_walk, set_value, stored_value}
 
 module _ (V : Type 0) (d : Domain V) where
   -- the value of a hash
@@ -65,3 +66,49 @@ module _ (V : Type 0) (d : Domain V) where
       ∙ (λ i. touching_all V d p (numbered_arrays x) ((is_second ∙ is_guard) i) (core V (same_fields i) (touched_a i)))
       ∙ ap (λ (f : V). touching_all V d p (numbered_arrays x) g (core V fields0 (touching V d p fields0 f copies0 a))) (is_first ∙ is_guard) in
       ap (λ (c : Copies V). core V fields2 c) stored ∙ ap (after_cell p a x context) touches
+
+  -- the state behind the touch of a condition's arrays, and the condition on it
+  pub touched_is : (p : Program) (arm : CheckedArm) (context : Option V) (guard : V) (now t : Core V)
+      → guard ≡ guard_in V d p context → now ≡ touching_all V d p (numbered_arrays arm.cond) guard t → now ≡ arm_touched V d p arm context t
+  touched_is p arm context guard now t is walked = walked ∙ ap (λ (g : V). touching_all V d p (numbered_arrays arm.cond) g t) is
+
+  pub cond_is : (p : Program) (arm : CheckedArm) (context : Option V) (guard cond : V) (fields fields_read : List V) (copies copies_read : Copies V) (t : Core V)
+      → guard ≡ guard_in V d p context → core V fields copies ≡ touching_all V d p (numbered_arrays arm.cond) guard t
+      → fields_read ≡ fields → copies_read ≡ copies
+      → cond ≡ walk_value V d.ops arm.cond (seen V d.ops fields_read copies_read)
+      → cond ≡ arm_cond V d p arm context t
+  cond_is p arm context guard cond fields fields_read copies copies_read t is walked same_fields same_copies valued =
+      valued ∙ (λ i. walk_value V d.ops arm.cond (seen V d.ops (same_fields i) (same_copies i)))
+      ∙ ap (λ (c : Core V). walk_value V d.ops arm.cond (seen V d.ops c.fields c.copies)) (touched_is p arm context guard (core V fields copies) t is walked)
+
+  -- one array more is touched
+  pub each_more : (p : Program) (arrays : List ℕ) (i : ℕ) (guard : V) (fields now_fields : List V) (copies now_copies : Copies V) (whole : Core V)
+      → i < length arrays → now_fields ≡ fields → now_copies ≡ touching V d p fields guard copies (get_or arrays i 0)
+      → touching_all V d p (drop i arrays) guard (core V fields copies) ≡ whole
+      → touching_all V d p (drop (i + 1) arrays) guard (core V now_fields now_copies) ≡ whole
+  each_more p arrays i guard fields now_fields copies now_copies whole within same_fields touched_a so_far =
+      (λ k. touching_all V d p (drop (i + 1) arrays) guard (core V (same_fields k) (touched_a k)))
+      ∙ sym (ap (λ (l : List ℕ). touching_all V d p l guard (core V fields copies)) (drop_more arrays i 0 within))
+      ∙ so_far
+
+  -- an assignment to a field, once all arrays are touched
+  abbrev after_field : Program → ℕ → CheckedExpr → Option V → Core V → Core V
+  after_field p f x context t = record {
+    fields = slice_set t.fields f (set_value V d p context (walk_value V d.ops x (seen V d.ops t.fields t.copies)) (at V d.ops t.fields f));
+    copies = t.copies;
+  }
+
+  pub field_is : (p : Program) (f : ℕ) (x : CheckedExpr) (context : Option V) (guard : V) (fields0 fields2 fields_read fields_old put : List V) (copies0 copies2 copies_read : Copies V) (right old new : V)
+      → guard ≡ guard_in V d p context
+      → core V fields2 copies2 ≡ touching_all V d p (numbered_arrays x) guard (core V fields0 copies0)
+      → fields_read ≡ fields2 → copies_read ≡ copies2 → fields_old ≡ fields2
+      → right ≡ walk_value V d.ops x (seen V d.ops fields_read copies_read)
+      → old ≡ at V d.ops fields_old f → new ≡ set_value V d p context right old → put ≡ slice_set fields2 f new
+      → core V put copies2 ≡ field_walk V d p f x context (core V fields0 copies0)
+  field_is p f x context guard fields0 fields2 fields_read fields_old put copies0 copies2 copies_read right old new is_guard walked read_fields read_copies read_old is_right is_old made back =
+      let right_is : right ≡ walk_value V d.ops x (seen V d.ops fields2 copies2) = is_right ∙ (λ i. walk_value V d.ops x (seen V d.ops (read_fields i) (read_copies i))) in
+      let old_is : old ≡ at V d.ops fields2 f = is_old ∙ ap (λ (l : List V). at V d.ops l f) read_old in
+      let set : put ≡ slice_set fields2 f (set_value V d p context (walk_value V d.ops x (seen V d.ops fields2 copies2)) (at V d.ops fields2 f)) =
+      back ∙ ap (λ (v : V). slice_set fields2 f v) (made ∙ (λ i. set_value V d p context (right_is i) (old_is i))) in
+      ap (λ (l : List V). core V l copies2) set
+      ∙ ap (after_field p f x context) (walked ∙ ap (λ (g : V). touching_all V d p (numbered_arrays x) g (core V fields0 copies0)) is_guard)

@@ -3,6 +3,10 @@
 #![tactic(auto)]
 
 mod arrays;
+mod mark;
+mod mark_values;
+mod marked;
+mod places;
 #[cfg(test)]
 mod rows;
 mod sets;
@@ -10,4 +14,5 @@ mod sources;
 mod table;
 mod values;
 
+pub use places::open_arrays;
 pub use table::needs;
