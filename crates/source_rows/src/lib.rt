@@ -14,5 +14,5 @@ mod sources;
 mod table;
 mod values;
 
-pub use places::open_arrays;
+pub use places::{array_places, open_arrays};
 pub use table::needs;

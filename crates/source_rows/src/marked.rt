@@ -27,7 +27,8 @@ pub struct Walked {
 
 /// The walk over a program from a header's words on.
 pub fn walk(alloc: Global, checked: &Checked, header: &[i32]) -> Result<Walked, AllocError>
-    ensures { IfOk result (λ w. state_of w ≡ marked_walk checked.now header.now) }
+    ensures walked { IfOk result (λ w. state_of w ≡ marked_walk checked.now header.now) }
+    ensures long { IfOk result (λ w. length w.copies.items ≡ length (infos_of checked.now)) }
 {
     let mut walked = start(alloc, checked, header)?;
     walk_block(alloc, checked, checked.body(), &None, &mut walked)?;
