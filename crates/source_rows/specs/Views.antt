@@ -1,16 +1,13 @@
 -- The walk over a source with the arrays behind each value, and its state while it is under way.
-use Rattle.std.specs.Prelude.{ℕ, List, [], ◌++◌, map, Option, None, refl}
+use Rattle.std.specs.Prelude.{ℕ, List, [], ◌++◌, Option}
 use Rattle.std.specs.List.{slice_index_or}
 use Rattle.std.specs.Coded.{Coded, coded_list, coded_ℕ}
-use Rattle.mp5_words.specs.Copies.{Copy, Seen, Indexes, latest_of, touch}
+use Rattle.mp5_words.specs.Copies.{Copy, Seen, Indexes}
 use Rattle.mp5_words.specs.Domain.{source_ops, sources}
 use Rattle.domino_tree.specs.declared.program.Program.{Program}
 use Rattle.domino_check.specs.declared.numbered.CheckedExpr.{CheckedExpr}
 use Rattle.domino_check.specs.declared.numbered.CheckedStmt.{CheckedStmt}
-use Rattle.domino_check.specs.declared.numbered.CheckedStmt.TheOpen as open_form
 use Rattle.domino_check.specs.declared.numbered.CheckedArm.{CheckedArm}
-use Rattle.domino_check.specs.NumberedMeaning.{numbered_arrays}
-use Rattle.domino_check.specs.SourceWalk.{source_indexes}
 use Rattle.domino_check.specs.Walk.{Core, Branch, Walks}
 use Rattle.source_rows.specs.Walking as general
 

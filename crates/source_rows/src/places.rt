@@ -14,11 +14,7 @@ use mp5_words::{NoMemory, cell_of};
 use std::alloc::Global;
 
 /// Whether some site that touches the array is open, for each of sixteen arrays.
-pub fn open_arrays(
-    alloc: Global,
-    checked: &Checked,
-    header: &[i32],
-) -> Result<[bool; 16], NoMemory>
+pub fn open_arrays(alloc: Global, checked: &Checked, header: &[i32]) -> Result<[bool; 16], NoMemory>
     ensures { IfOk result (AreOpen (marked_copy checked.now header.now)) }
 {
     let walked = walk(alloc, checked, header)?;
@@ -56,11 +52,7 @@ fn some_open(guards: &[Mark]) -> bool
 
 /// The place that its index names in each of sixteen arrays, at the first site that touches it and by the header alone;
 /// 0 for an array that no site touches.
-pub fn array_places(
-    alloc: Global,
-    checked: &Checked,
-    header: &[i32],
-) -> Result<[u32; 16], NoMemory>
+pub fn array_places(alloc: Global, checked: &Checked, header: &[i32]) -> Result<[u32; 16], NoMemory>
     ensures { IfOk result
         (ArePlaces (cells_of checked.now) (marked_copy checked.now header.now)) }
 {

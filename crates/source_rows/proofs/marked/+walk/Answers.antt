@@ -34,14 +34,14 @@ pub walk_arm-returns-clause-holds : goal.walk_arm-returns-clause-holds
 walk_arm-returns-clause-holds t c =
     let p = c.args.checked.now in
     let cond = cond_is Mark (marks_of p) p c.args.arm.now c.args.context.now _ c.in_ok-cond.cond c.touch_all.new.walked.fields.items c.deref.result.now c.touch_all.new.walked.copies.items c.deref-2.result.now (state_of c.args.walked.now)
-        c.in_ok-guard.ensures c.in_ok-touch_all.ensures.walked c.deref.ensures.value c.deref-2.ensures.value c.in_ok-cond.ensures in
+    c.in_ok-guard.ensures c.in_ok-touch_all.ensures.walked c.deref.ensures.value c.deref-2.ensures.value c.in_ok-cond.ensures in
     c.in_ok-holds.ensures (cells_of p) ∙ (λ i. (marks_of p).yes (c.in_ok-guard.ensures i) (cond i))
 
 pub walk_arm-returns-clause-fails : goal.walk_arm-returns-clause-fails
 walk_arm-returns-clause-fails t c =
     let p = c.args.checked.now in
     let cond = cond_is Mark (marks_of p) p c.args.arm.now c.args.context.now _ c.in_ok-cond.cond c.touch_all.new.walked.fields.items c.deref.result.now c.touch_all.new.walked.copies.items c.deref-2.result.now (state_of c.args.walked.now)
-        c.in_ok-guard.ensures c.in_ok-touch_all.ensures.walked c.deref.ensures.value c.deref-2.ensures.value c.in_ok-cond.ensures in
+    c.in_ok-guard.ensures c.in_ok-touch_all.ensures.walked c.deref.ensures.value c.deref-2.ensures.value c.in_ok-cond.ensures in
     c.in_ok-fails.ensures (cells_of p) ∙ (λ i. (marks_of p).no (c.in_ok-guard.ensures i) (cond i))
 
 pub walk_arm-returns-clause-walked : goal.walk_arm-returns-clause-walked
