@@ -1,3 +1,4 @@
 mod NeedLemmas
 mod ChainLemmas
 mod StepLemmas
+pub mod PlaceLemmas

@@ -1,8 +1,14 @@
-//! Which arrays of a program need which, by a walk over its source as slow and plain as the definition: so that the
-//! definition can be run on worked rows.
+//! Which arrays of a program need which, and where a header has its places, by walks over its source as slow and plain
+//! as the definitions: so that these can be run on worked rows.
 #![tactic(auto)]
 
 mod arrays;
+mod mark;
+mod mark_values;
+mod marked;
+#[cfg(test)]
+mod place_rows;
+mod places;
 #[cfg(test)]
 mod rows;
 mod sets;
@@ -10,4 +16,5 @@ mod sources;
 mod table;
 mod values;
 
+pub use places::{array_places, open_arrays};
 pub use table::needs;

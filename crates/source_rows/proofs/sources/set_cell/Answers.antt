@@ -1,9 +1,11 @@
+use Rattle.mp5_words.specs.Domain.{sources}
+use Rattle.source_rows.specs.Views.{Sources}
 use Rattle.source_rows.proofs.StepLemmas.{cell_is}
 use Rattle.source_rows.proofs.sources.set_cell.Goals as goal
 
 pub returns-clause-walked : goal.returns-clause-walked
 returns-clause-walked c =
-    cell_is c.args.checked.now c.args.array c.args.expr.now c.args.context.now c.in_ok-guard.guard c.as_slice.result.now c.as_slice-2.result.now
+    cell_is Sources sources c.args.checked.now c.args.array c.args.expr.now c.args.context.now c.in_ok-guard.guard c.as_slice.result.now c.as_slice-2.result.now
     c.args.walked.now.fields.items c.touch.new.walked.fields.items c.touch_all.new.walked.fields.items c.deref.result.now
     c.args.walked.now.copies.items c.touch.new.walked.copies.items c.touch_all.new.walked.copies.items c.deref-2.result.now c.take_copy-old.new.copies.items c.put_copy.new.copies.items
     c.in_ok-right.right c.take_copy-old.result c.in_ok-new.new
