@@ -1,0 +1,6 @@
+pub mod Related
+pub mod HeaderLemmas
+pub mod CleanLemmas
+pub mod IndexLemmas
+pub mod PlaceLemmas
+pub mod PlaceLaws

@@ -1,0 +1,4 @@
+pub mod Clean
+pub mod HeaderRun
+pub mod HeaderSteps
+pub mod Places
