@@ -4,3 +4,4 @@ pub mod CleanLemmas
 pub mod IndexLemmas
 pub mod PlaceLemmas
 pub mod PlaceLaws
+pub mod CleanSteps

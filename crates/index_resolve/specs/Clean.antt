@@ -1,10 +1,11 @@
 -- Whether a value is clean: no copy of an array is behind it, so a header alone tells it.
-use Rattle.std.specs.Prelude.{◌≡◌, ℕ, Bool, true, false, ◌&&◌, List, [], ◌∷◌, replicate}
+use Rattle.std.specs.Prelude.{◌≡◌, ℕ, Bool, true, false, ◌&&◌, List, [], ◌∷◌, replicate, Option}
 use Rattle.mp5_words.specs.Domain.{Domain, sources}
 use Rattle.mp5_words.specs.Copies.{at}
 use Rattle.code_forms.specs.declared.flat.FlatArray.{FlatArray}
 use Rattle.code_forms.specs.declared.flat.Instr.{Instr}
-use Rattle.code_forms.specs.FlatMeaning.{flat_values}
+use Rattle.code_forms.specs.FlatMeaning.{Slots, step_value, flat_values}
+use Rattle.flat_graph.specs.Nodes.{owner}
 
 -- whether there are none
 abbrev pub is_none : List ℕ → Bool
@@ -35,3 +36,8 @@ cleans = record {
 -- whether the values of all slots are clean
 abbrev pub clean_slots : ℕ → List FlatArray → List Instr → List Bool
 clean_slots fields arrays instrs = flat_values Bool cleans fields arrays instrs (replicate fields true)
+
+-- the value of an instruction that loads, makes or stores a copy of this array is clean or not, whichever copy it makes
+abbrev pub IsCleanStep : List Bool → Instr → Option ℕ → Bool → Type 0
+IsCleanStep clean i array result = (slots : Slots) (copy : Option ℕ) → array ≡ owner i copy
+    → result ≡ step_value Bool cleans slots clean (record { instr = i; copy = copy })
