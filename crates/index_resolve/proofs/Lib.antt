@@ -5,3 +5,4 @@ pub mod IndexLemmas
 pub mod PlaceLemmas
 pub mod PlaceLaws
 pub mod CleanSteps
+pub mod OrderPlaces

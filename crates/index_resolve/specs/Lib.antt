@@ -2,3 +2,4 @@ pub mod Clean
 pub mod HeaderRun
 pub mod HeaderSteps
 pub mod Places
+pub mod Order
