@@ -6,3 +6,4 @@ pub mod PlaceLemmas
 pub mod PlaceLaws
 pub mod CleanSteps
 pub mod OrderPlaces
+pub mod SetLemmas

@@ -3,3 +3,4 @@ pub mod HeaderRun
 pub mod HeaderSteps
 pub mod Places
 pub mod Order
+pub mod Groups

@@ -2,5 +2,6 @@
 #![tactic(auto)]
 
 mod clean;
+mod groups;
 mod header;
 mod order;
