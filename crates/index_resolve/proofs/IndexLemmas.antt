@@ -55,34 +55,34 @@ life_first true (Loads ∷ es) is life = absurd cc
 life_first true (Stores ∷ es) is life = absurd cc
 
 -- the array's Index: its number, and what it reduces
-pub record IsIndex (instrs : List Instr) (at a k : ℕ) (x : Operand) : Type 0 where
+pub record IsIndex (instrs : List Instr) (a k : ℕ) (x : Operand) : Type 0 where
   pub within : k < length instrs
   pub instruction : instr_at instrs k ≡ instr.Index a x
-  pub slot : index_slot instrs at a ≡ at + k
+  pub slot : (at : ℕ) → index_slot instrs at a ≡ at + k
   pub reduces : index_operand instrs a ≡ x
 
-pub index_of : (instrs : List Instr) (at a : ℕ) (fs : List Event) → events a instrs ≡ Indexes ∷ fs → (k : ℕ) × (x : Operand) × IsIndex instrs at a k x
-index_of [] at a fs e = absurd cc
-index_of (i ∷ instrs) at a fs e = elim (first_event i a (events a instrs) fs e) [
+pub index_of : (instrs : List Instr) (a : ℕ) (fs : List Event) → events a instrs ≡ Indexes ∷ fs → (k : ℕ) × (x : Operand) × IsIndex instrs a k x
+index_of [] a fs e = absurd cc
+index_of (i ∷ instrs) a fs e = elim (first_event i a (events a instrs) fs e) [
   | inl t ↦ (
     0,
     t.0,
     record {
       within = omega arith;
       instruction = t.1;
-      slot = ap (λ j. index_slot (j ∷ instrs) at a) t.1 ∙ slot_here a t.0 instrs at ∙ add_none at;
+      slot = λ at. ap (λ j. index_slot (j ∷ instrs) at a) t.1 ∙ slot_here a t.0 instrs at ∙ add_none at;
       reduces = ap (λ j. index_operand (j ∷ instrs) a) t.1 ∙ operand_here a t.0 instrs;
     },
   )
   | inr t ↦ (
-      let rest = index_of instrs (suc at) a fs (subst (λ l. l ++ events a instrs ≡ Indexes ∷ fs) t e) in
-      let is : IsIndex instrs (suc at) a rest.0 rest.1 = rest.2 in (
+      let rest = index_of instrs a fs (subst (λ l. l ++ events a instrs ≡ Indexes ∷ fs) t e) in
+      let is : IsIndex instrs a rest.0 rest.1 = rest.2 in (
         suc rest.0,
         rest.1,
         record {
           within = omega (arith, is.within);
           instruction = is.instruction;
-          slot = slot_past i instrs at a t ∙ is.slot ∙ add_one at rest.0;
+          slot = λ at. slot_past i instrs at a t ∙ is.slot (suc at) ∙ add_one at rest.0;
           reduces = operand_behind (i ∷ []) instrs a (append-nil (event_of a i) ∙ t) ∙ is.reduces;
         },
       ))

@@ -7,3 +7,4 @@ pub mod PlaceLaws
 pub mod CleanSteps
 pub mod OrderPlaces
 pub mod SetLemmas
+pub mod UseLemmas

@@ -43,12 +43,12 @@ no_place false v e = refl
 module _ (c : Staged) (staged : IsStaged c) (steps : c.header ≡ header_steps (clean_slots c.fields c.arrays c.instrs) c.fields c.instrs)
     (touched : (g a : ℕ) → g < length c.groups → Member a (group_at c g).arrays → is_touched c.arrays a ≡ true)
     (shards : (g : ℕ) → g < length c.groups → (group_at c g).sharded ≡ true → CanShard c.fields c.arrays c.instrs (group_at c g).arrays) where
-  index_at : (g a : ℕ) → g < length c.groups → Member a (group_at c g).arrays → (k : ℕ) × (x : Operand) × IsIndex c.instrs c.fields a k x
+  index_at : (g a : ℕ) → g < length c.groups → Member a (group_at c g).arrays → (k : ℕ) × (x : Operand) × IsIndex c.instrs a k x
   index_at g a less m =
       let there : a < length c.arrays = ((staged.groups g less).there a m).0 in
       let life : is_life (is_touched c.arrays a) (events (0 + a) c.instrs) ≡ true = life_at c.instrs (after_all (header_slots c.fields) c.instrs) 0 c.arrays a there (arrays_fitting c staged.code) in
       let first = life_first (is_touched c.arrays a) (events a c.instrs) (touched g a less m) (subst (λ n. is_life (is_touched c.arrays a) (events n c.instrs) ≡ true) (omega arith) life) in
-      index_of c.instrs c.fields a first.0 first.1
+      index_of c.instrs a first.0 first.1
 
   first_in : (g : ℕ) → g < length c.groups → Member (first_array (group_at c g)) (group_at c g).arrays
   first_in g less = first_member (group_at c g).arrays (staged.groups g less).some
@@ -56,8 +56,8 @@ module _ (c : Staged) (staged : IsStaged c) (steps : c.header ≡ header_steps (
   clear : (header : List ℤ) (long : length header ≡ c.fields) (g a : ℕ) → g < length c.groups → (group_at c g).sharded ≡ true → Member a (group_at c g).arrays → IsClear c staged.code steps header long a
   clear header long g a less sharded m =
       let at = index_at g a less m in
-      let is : IsIndex c.instrs c.fields a at.0 at.1 = at.2 in (
-        omega (arith, is.slot, is.within),
+      let is : IsIndex c.instrs a at.0 at.1 = at.2 in (
+        omega (arith, is.slot c.fields, is.within),
         sym (sources_are c.fields c.arrays c.instrs header long (slot_of_index c a)) ∙ (shards g less sharded).clean a m,
       )
 
@@ -101,8 +101,8 @@ module _ (c : Staged) (staged : IsStaged c) (steps : c.header ≡ header_steps (
     index_value : (g a : ℕ) → g < length c.groups → Member a (group_at c g).arrays → word_at vals (slot_of_index c a) ≡ pos (cell (index_word c.fields c.arrays c.instrs loads header a) (flat_length c.arrays a))
     index_value g a less m =
         let at = index_at g a less m in
-        let is : IsIndex c.instrs c.fields a at.0 at.1 = at.2 in
-        ap (word_at vals) is.slot ∙ valued c loads header at.0 staged long is.within
+        let is : IsIndex c.instrs a at.0 at.1 = at.2 in
+        ap (word_at vals) (is.slot c.fields) ∙ valued c loads header at.0 staged long is.within
         ∙ ap (instr_value ℤ (words (flat_length c.arrays) loads) (slot_of_index c) vals) is.instruction
         ∙ ap (λ x. instr_value ℤ (words (flat_length c.arrays) loads) (slot_of_index c) vals (instr.Index a x)) (sym is.reduces)
 
