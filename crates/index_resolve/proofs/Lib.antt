@@ -8,3 +8,4 @@ pub mod CleanSteps
 pub mod OrderPlaces
 pub mod SetLemmas
 pub mod UseLemmas
+pub mod OrderFacts
