@@ -9,3 +9,4 @@ pub mod OrderPlaces
 pub mod SetLemmas
 pub mod UseLemmas
 pub mod OrderFacts
+pub mod GroupFacts
