@@ -10,3 +10,4 @@ pub mod SetLemmas
 pub mod UseLemmas
 pub mod OrderFacts
 pub mod GroupFacts
+pub mod StagedFacts
