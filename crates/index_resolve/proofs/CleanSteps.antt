@@ -1,17 +1,16 @@
 -- One step more of the pass that tells which values are clean.
-use Rattle.std.proofs.Common.{◌≡◌, ℕ, zero, suc, ◌+◌, ◌<◌, ◌≤◌, Bool, List, [], ◌∷◌, ◌++◌, length, map, drop, get_or, Option, refl, sym, ap, subst, ◌∙◌, arith, drop-cons}
+use Rattle.std.proofs.Common.{◌≡◌, ℕ, zero, suc, ◌+◌, ◌<◌, ◌≤◌, Bool, List, [], ◌∷◌, ◌++◌, length, drop, get_or, refl, sym, ap, ◌∙◌, arith, drop-cons}
 use Rattle.std.proofs.lemmas.List.{length-map}
 use Rattle.code_forms.specs.declared.flat.FlatArray.{FlatArray}
 use Rattle.code_forms.specs.declared.flat.Instr.{Instr}
 use Rattle.code_forms.specs.declared.flat.Instr.TheVariants as instr
-use Rattle.code_forms.specs.FlatMeaning.{Slots, Step, copy_in, steps_in, step_value, run_from}
+use Rattle.code_forms.specs.FlatMeaning.{Slots, copy_in, steps_in, step_value, run_from}
 use Rattle.code_forms.specs.FlatValid.{instr_at}
-use Rattle.dependence.specs.Uses.{Node, node_at, no_node}
+use Rattle.dependence.specs.Uses.{Node, node_at}
 use Rattle.flat_graph.specs.declared.node.Node.{Node as CodeNode}
 use Rattle.flat_graph.specs.Nodes.{nodes_in, owner}
 use Rattle.flat_graph.specs.Orders.{as_node, as_nodes, copies_in}
 use Rattle.flat_graph.proofs.Ordered.{node_length, node_there}
-use Rattle.flat_graph.proofs.NodeLemmas.{any_default}
 use Rattle.index_resolve.specs.Clean.{cleans}
 
 pub node_count : (fields : ℕ) (arrays : List FlatArray) (instrs : List Instr) (ns : List CodeNode) → as_nodes ns ≡ nodes_in fields arrays instrs → length ns ≡ length instrs

@@ -1,9 +1,8 @@
 -- The groups of a layout as groups of staged code: their arrays, and where their cells are read and written.
-use Rattle.std.proofs.Common.{◌≡◌, ◌⊎◌, inl, inr, ℕ, zero, suc, ◌+◌, ◌*◌, ◌<◌, ◌≤◌, nat_lt, nat_le, ◌==◌, ◌&&◌, ◌||◌, if◌then◌else◌, Bool, true, false, pos, List, [], ◌∷◌, ◌++◌, length, map, take, get_or, Option, None, Some, refl, sym, ap, subst, ◌∙◌, arith}
+use Rattle.std.proofs.Common.{◌≡◌, inl, inr, ℕ, zero, suc, ◌+◌, ◌<◌, ◌≤◌, nat_lt, nat_le, ◌==◌, ◌&&◌, ◌||◌, if◌then◌else◌, Bool, true, false, List, [], ◌∷◌, ◌++◌, length, map, take, get_or, Option, None, Some, refl, sym, ap, subst, ◌∙◌, arith}
 use Rattle.std.specs.List.{list_any, list_all}
 use Rattle.std.proofs.lemmas.Bool.Decides.{nat_tests}
 use Rattle.code_forms.specs.declared.flat.FlatArray.{FlatArray}
-use Rattle.code_forms.specs.declared.flat.Operand.{Operand}
 use Rattle.code_forms.specs.declared.flat.Instr.{Instr}
 use Rattle.code_forms.specs.declared.flat.Instr.TheVariants as instr
 use Rattle.code_forms.specs.declared.parts.StagedGroup.{StagedGroup}

@@ -11,3 +11,4 @@ pub mod UseLemmas
 pub mod OrderFacts
 pub mod GroupFacts
 pub mod StagedFacts
+pub mod ResolveLemmas

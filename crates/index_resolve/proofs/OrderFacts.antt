@@ -1,33 +1,31 @@
 -- In the running order each instruction stands behind what it uses.
-use Rattle.std.proofs.Common.{◌≡◌, ◌⊎◌, inl, inr, ℕ, zero, suc, ◌+◌, ◌*◌, ◌<◌, ◌≤◌, nat_lt, ◌==◌, ◌&&◌, not, Bool, true, false, pos, List, [], ◌∷◌, ◌++◌, length, map, flat_map, take, get_or, Option, None, Some, refl, sym, ap, subst, ◌∙◌, arith, append-nil}
+use Rattle.std.proofs.Common.{◌≡◌, ◌⊎◌, inl, inr, ℕ, zero, suc, ◌+◌, ◌*◌, ◌<◌, ◌≤◌, nat_lt, ◌==◌, not, Bool, true, false, List, [], ◌∷◌, ◌++◌, length, flat_map, take, get_or, refl, sym, ap, subst, ◌∙◌, arith}
 use Rattle.std.specs.List.{list_all}
 use Rattle.std.proofs.lemmas.Bool.Decides.{nat_tests}
-use Rattle.std.proofs.lemmas.List.{length-append}
-use Rattle.code_forms.specs.declared.flat.FlatArray.{FlatArray}
 use Rattle.code_forms.specs.declared.flat.Operand.{Operand}
 use Rattle.code_forms.specs.declared.flat.Operand.TheVariants as operand
 use Rattle.code_forms.specs.declared.flat.Instr.{Instr}
 use Rattle.code_forms.specs.declared.flat.Instr.TheVariants as instr
 use Rattle.code_forms.specs.declared.layout.Spot.{Spot}
 use Rattle.code_forms.specs.FlatMeaning.{Slots, steps_in, index_slot}
-use Rattle.code_forms.specs.FlatValid.{Written, Event, Indexes, Loads, Stores, is_flat_code, is_limited, is_written, is_guard, instr_fits, instrs_fit, arrays_fit, sames_fit, last_fits, after_all, header_slots, writes, instr_at, events, event_of, is_life, is_touched}
+use Rattle.code_forms.specs.FlatValid.{Event, Indexes, Loads, Stores, is_flat_code, is_limited, is_written, is_guard, instr_fits, instrs_fit, arrays_fit, sames_fit, after_all, header_slots, writes, instr_at, events, event_of, is_life, is_touched}
 use Rattle.code_forms.specs.FlatValid.{at as slot_mark}
 use Rattle.code_forms.specs.Staged.{Staged, Member, operand_slots, slot_of_index, uses, last_slots, guards_of, number_at, runs, point, InPart, IsWritten, of_header, of_instr, AreParts, IsOrder}
 use Rattle.code_forms.proofs.ValidLemmas.{and_front, and_back, and_both}
-use Rattle.code_forms.proofs.StagedLemmas.{member_front, member_back}
+use Rattle.code_forms.proofs.StagedLemmas.{member_front}
 use Rattle.code_forms.proofs.FlatLemmas.{UsesBelow, InOrder}
 use Rattle.code_forms.proofs.OrderLemmas.{Lives, in_order}
 use Rattle.code_forms.proofs.FitLemmas.{load_here, store_here}
 use Rattle.dependence.specs.Uses.{Node, node_at, Member as Uses}
-use Rattle.flat_graph.specs.Nodes.{nodes_in, node_of, used_by, writer, writers, index_used, array_of}
-use Rattle.flat_graph.specs.Layouts.{RunsBehind, spot_at, part_of}
+use Rattle.flat_graph.specs.Nodes.{nodes_in, used_by, writer, writers}
+use Rattle.flat_graph.specs.Layouts.{RunsBehind}
 use Rattle.flat_graph.specs.Orders.{copies_in}
-use Rattle.flat_graph.proofs.Ordered.{node_length, node_there, step_at}
-use Rattle.index_resolve.specs.Order.{part_at, is_kind, is_in, chosen, part_order, running, part_ends}
+use Rattle.flat_graph.proofs.Ordered.{node_length, node_there}
+use Rattle.index_resolve.specs.Order.{part_at, is_kind, is_in, chosen, running, part_ends}
 use Rattle.index_resolve.proofs.OrderPlaces.{Stands, at_each, stands, place, inner, in_part, order_grows, order_up, ends_length, ends_at, earlier, is_same}
 use Rattle.index_resolve.proofs.PlaceLemmas.{arrays_fitting}
 use Rattle.index_resolve.proofs.IndexLemmas.{life_at, guards_at, IsIndex, index_of}
-use Rattle.index_resolve.proofs.UseLemmas.{Wrote, Good, before, fit_at, more_wrote, in_front, in_back, one_op, all_guards, plain_uses, word_wrote}
+use Rattle.index_resolve.proofs.UseLemmas.{Good, before, fit_at, more_wrote, in_back, one_op, all_guards, plain_uses, word_wrote}
 
 member_cases : (v : ℕ) (xs ys : List ℕ) → Member v (xs ++ ys) → Member v xs ⊎ Member v ys
 member_cases v [] ys m = inr m

@@ -1,10 +1,10 @@
 -- Each instruction has one place in the running order, in its part.
-use Rattle.std.proofs.Common.{◌≡◌, ◌⊎◌, inl, inr, ℕ, zero, suc, ◌+◌, ◌-◌, ◌*◌, ◌<◌, ◌≤◌, ◌==◌, ◌&&◌, not, Bool, true, false, if◌then◌else◌, List, [], ◌∷◌, ◌++◌, length, get_or, refl, sym, ap, subst, ◌∙◌, arith}
+use Rattle.std.proofs.Common.{◌≡◌, inl, inr, ℕ, zero, suc, ◌+◌, ◌-◌, ◌*◌, ◌<◌, ◌≤◌, ◌==◌, Bool, true, false, List, [], ◌∷◌, ◌++◌, length, get_or, refl, sym, ap, subst, ◌∙◌, arith}
 use Rattle.std.proofs.lemmas.List.{length-append, get_or_append_left}
-use Rattle.std.proofs.lemmas.Bool.Decides.{nat_tests, eqb_tells}
+use Rattle.std.proofs.lemmas.Bool.Decides.{nat_tests}
 use Rattle.code_forms.specs.declared.flat.Instr.{Instr}
 use Rattle.code_forms.specs.declared.layout.Spot.{Spot}
-use Rattle.code_forms.specs.FlatValid.{writes, instr_at}
+use Rattle.code_forms.specs.FlatValid.{instr_at}
 use Rattle.code_forms.proofs.ValidLemmas.{and_front, and_back, and_both}
 use Rattle.code_forms.proofs.RunningLemmas.{below_or_past}
 use Rattle.index_resolve.specs.Order.{part_at, is_kind, is_in, one_if, chosen, part_order, running, part_ends}

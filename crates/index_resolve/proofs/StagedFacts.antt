@@ -1,34 +1,32 @@
 -- Flat code in the order and the groups of its layout is valid staged code.
-use Rattle.std.proofs.Common.{◌≡◌, ◌⊎◌, inl, inr, ℕ, zero, suc, ◌+◌, ◌*◌, ◌<◌, ◌≤◌, nat_lt, nat_le, ◌&&◌, Bool, true, false, List, [], ◌∷◌, length, map, All, get_or, Option, None, Some, refl, sym, ap, subst, ◌∙◌, arith}
+use Rattle.std.proofs.Common.{◌≡◌, ℕ, zero, suc, ◌+◌, ◌*◌, ◌<◌, ◌≤◌, nat_lt, nat_le, Bool, true, false, List, [], ◌∷◌, length, map, Option, None, Some, refl, sym, ap, subst, ◌∙◌, arith}
 use Rattle.std.proofs.lemmas.Bool.Decides.{nat_tests}
 use Rattle.code_forms.specs.declared.flat.Instr.{Instr}
 use Rattle.code_forms.specs.declared.flat.Instr.TheVariants as instr
 use Rattle.code_forms.specs.declared.layout.Spot.{Spot}
 use Rattle.code_forms.specs.declared.layout.Spot.TheVariants as spot
-use Rattle.code_forms.specs.declared.parts.HeaderStep.{HeaderStep}
-use Rattle.code_forms.specs.declared.parts.StagedGroup.{StagedGroup}
 use Rattle.code_forms.specs.FlatMeaning.{copy_in}
-use Rattle.code_forms.specs.FlatValid.{Loads, Stores, is_flat_code, is_limited, instr_fits, instrs_fit, header_slots, after_all, writes, instr_at, events, event_of, is_life, is_touched, ascends, cells_in}
-use Rattle.code_forms.specs.Staged.{Staged, Member, slot_count, number_at, runs, accessed, stored_operand, group_at, no_group, first_array, InPart, AreParts, IsOrder, AreAccesses, IsGroup, IsStaged}
+use Rattle.code_forms.specs.FlatValid.{Loads, Stores, is_flat_code, is_limited, instr_fits, header_slots, after_all, instr_at, events, event_of, is_life, is_touched, ascends}
+use Rattle.code_forms.specs.Staged.{Staged, Member, number_at, runs, accessed, stored_operand, group_at, first_array, InPart, AreAccesses, IsGroup}
 use Rattle.code_forms.specs.Staged.{group_of as staged_group}
 use Rattle.code_forms.proofs.ValidLemmas.{and_front, and_back}
 use Rattle.code_forms.proofs.FitLemmas.{load_here, store_here}
 use Rattle.code_forms.proofs.StagedLemmas.{first_member}
-use Rattle.dependence.specs.Reach.{Reaches, here}
-use Rattle.dependence.specs.Uses.{Node, node_at, Depends}
+use Rattle.dependence.specs.Reach.{here}
+use Rattle.dependence.specs.Uses.{Node, node_at}
 use Rattle.dependence.specs.Groups.{AreGroups, group_of}
-use Rattle.flat_graph.specs.Nodes.{nodes_in, node_of, owner}
+use Rattle.flat_graph.specs.Nodes.{nodes_in, owner}
 use Rattle.flat_graph.specs.Orders.{copies_in}
 use Rattle.flat_graph.specs.Layouts.{IsTouched, ArrayReaches, IsSpot, is_of, spot_at, part_of, RunsBehind}
 use Rattle.flat_graph.proofs.Ordered.{node_length, node_there}
 use Rattle.index_resolve.specs.HeaderRun.{CanShard}
 use Rattle.index_resolve.specs.Order.{part_at, is_kind, running, part_ends}
 use Rattle.index_resolve.specs.Groups.{marked}
-use Rattle.index_resolve.proofs.OrderPlaces.{Stands, place}
-use Rattle.index_resolve.proofs.OrderFacts.{life_some, some_event, life_of, are_parts, is_order, each, found}
+use Rattle.index_resolve.proofs.OrderPlaces.{place}
+use Rattle.index_resolve.proofs.OrderFacts.{life_some, some_event, life_of, each, found}
 use Rattle.index_resolve.proofs.PlaceLemmas.{arrays_fitting}
 use Rattle.index_resolve.proofs.UseLemmas.{before, fit_at}
-use Rattle.index_resolve.proofs.GroupFacts.{set_group, group_set, marks_rise, first_group, copy_is, copy_events, touched_there, StoreOf, store_of, life_stores}
+use Rattle.index_resolve.proofs.GroupFacts.{set_group, group_set, marks_rise, first_group, copy_is, copy_events, touched_there, store_of, life_stores}
 
 lt_is : (a b : ℕ) → nat_lt a b ≡ true → a < b
 lt_is a b e = grind (arith, nat_tests, e)

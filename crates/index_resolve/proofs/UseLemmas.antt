@@ -1,20 +1,16 @@
 -- What an instruction uses is written before it, and is what its node uses.
-use Rattle.std.proofs.Common.{◌≡◌, ◌⊎◌, inl, inr, ℕ, zero, suc, ◌+◌, ◌-◌, ◌<◌, ◌≤◌, nat_lt, ◌&&◌, if◌then◌else◌, Bool, true, false, pos, List, [], ◌∷◌, ◌++◌, length, map, flat_map, take, replicate, get_or, Option, None, Some, refl, sym, ap, subst, ◌∙◌, arith, append_assoc, append-nil}
+use Rattle.std.proofs.Common.{◌≡◌, ◌⊎◌, inl, inr, ℕ, zero, suc, ◌+◌, ◌-◌, ◌<◌, ◌≤◌, nat_lt, if◌then◌else◌, Bool, true, false, List, [], ◌∷◌, ◌++◌, length, map, flat_map, take, replicate, refl, sym, ap, subst, ◌∙◌, arith, append_assoc, append-nil}
 use Rattle.std.specs.List.{list_all}
 use Rattle.std.proofs.lemmas.Bool.Decides.{nat_tests}
-use Rattle.std.proofs.lemmas.List.{length-append, get_or_append_left}
-use Rattle.code_forms.specs.declared.flat.FlatArray.{FlatArray}
 use Rattle.code_forms.specs.declared.flat.Operand.{Operand}
 use Rattle.code_forms.specs.declared.flat.Operand.TheVariants as operand
 use Rattle.code_forms.specs.declared.flat.Instr.{Instr}
 use Rattle.code_forms.specs.declared.flat.Instr.TheVariants as instr
 use Rattle.code_forms.specs.FlatValid.{Written, is_written, is_guard, third_fits, instr_fits, instrs_fit, after, after_all, header_slots, writes, makes_guard, instr_at}
 use Rattle.code_forms.specs.FlatValid.{at as slot_mark}
-use Rattle.code_forms.specs.Staged.{Staged, Member, operand_slots, slot_of_index, uses, guards_of}
+use Rattle.code_forms.specs.Staged.{Staged, Member, operand_slots, uses}
 use Rattle.code_forms.proofs.ValidLemmas.{and_front, and_back}
 use Rattle.code_forms.proofs.StagedLemmas.{member_front, member_back}
-use Rattle.code_forms.proofs.RunningLemmas.{below_or_past}
-use Rattle.code_forms.proofs.OrderLemmas.{length_replicate}
 use Rattle.flat_graph.specs.Nodes.{writer, writers, used_by}
 
 member_cases : (v : ℕ) (xs ys : List ℕ) → Member v (xs ++ ys) → Member v xs ⊎ Member v ys

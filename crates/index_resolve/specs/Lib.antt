@@ -4,3 +4,4 @@ pub mod HeaderSteps
 pub mod Places
 pub mod Order
 pub mod Groups
+pub mod Resolve

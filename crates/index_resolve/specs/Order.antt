@@ -1,7 +1,6 @@
 -- The order in which the instructions of a layout run.
 use Rattle.std.specs.Prelude.{ℕ, zero, suc, ◌==◌, ◌&&◌, not, Bool, true, false, if◌then◌else◌, List, [], ◌∷◌, ◌++◌, length}
 use Rattle.code_forms.specs.declared.flat.Instr.{Instr}
-use Rattle.code_forms.specs.declared.flat.Instr.TheVariants as instr
 use Rattle.code_forms.specs.declared.layout.Spot.{Spot}
 use Rattle.code_forms.specs.FlatValid.{writes, instr_at}
 use Rattle.flat_graph.specs.Layouts.{spot_at, part_of}

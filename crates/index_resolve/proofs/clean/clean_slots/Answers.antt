@@ -1,9 +1,6 @@
 -- one step more of the pass
-use Rattle.std.proofs.Common.{◌≡◌, ◌<◌, ◌∙◌, Bool, List, length, get_or, sym, ap, subst, arith}
-use Rattle.code_forms.specs.declared.flat.Instr.{Instr}
-use Rattle.code_forms.specs.FlatMeaning.{Slots, Step, copy_in, index_slot, step_value}
-use Rattle.code_forms.specs.FlatValid.{instr_at}
-use Rattle.flat_graph.specs.Nodes.{owner}
+use Rattle.std.proofs.Common.{◌<◌, ◌∙◌, Bool, length, ap, subst, arith}
+use Rattle.code_forms.specs.FlatMeaning.{copy_in, index_slot, step_value}
 use Rattle.flat_graph.specs.Orders.{copies_in}
 use Rattle.flat_graph.proofs.NodeLemmas.{instr_here}
 use Rattle.index_resolve.specs.Clean.{cleans}

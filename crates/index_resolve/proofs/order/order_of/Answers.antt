@@ -1,5 +1,5 @@
 -- a count of instructions is a small number
-use Rattle.std.proofs.Common.{◌≡◌, ◌≤◌, ◌*◌, ◌<◌, ◌∙◌, ◌++◌, suc, length, ap, arith, Fits, w32}
+use Rattle.std.proofs.Common.{◌≡◌, ◌≤◌, ◌*◌, ◌∙◌, ◌++◌, suc, length, ap, arith}
 use Rattle.index_resolve.specs.Order.{running, part_order}
 use Rattle.index_resolve.proofs.OrderPlaces.{running_few}
 use Rattle.index_resolve.proofs.order.order_of.Goals as goal

@@ -1,5 +1,5 @@
 -- the parts so far
-use Rattle.std.proofs.Common.{◌≡◌, ◌*◌, ◌≤◌, length}
+use Rattle.std.proofs.Common.{◌≡◌}
 use Rattle.index_resolve.specs.Order.{running, part_ends}
 use Rattle.index_resolve.proofs.order.order_of.Given as goal
 
