@@ -1,0 +1,14 @@
+pub mod Related
+pub mod HeaderLemmas
+pub mod CleanLemmas
+pub mod IndexLemmas
+pub mod PlaceLemmas
+pub mod PlaceLaws
+pub mod CleanSteps
+pub mod OrderPlaces
+pub mod SetLemmas
+pub mod UseLemmas
+pub mod OrderFacts
+pub mod GroupFacts
+pub mod StagedFacts
+pub mod ResolveLemmas

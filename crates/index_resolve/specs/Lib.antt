@@ -1,0 +1,7 @@
+pub mod Clean
+pub mod HeaderRun
+pub mod HeaderSteps
+pub mod Places
+pub mod Order
+pub mod Groups
+pub mod Resolve
