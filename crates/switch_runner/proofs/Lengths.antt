@@ -10,7 +10,7 @@ use Rattle.domino_tree.proofs.ShapeLemmas.{lengths, exec_keeps}
 use Rattle.domino_names.specs.declared.infos.ArrayInfo.{ArrayInfo}
 use Rattle.domino_names.specs.Infos.{infos_of, array_of}
 use Rattle.domino_names.proofs.InfoLemmas.{infos_are}
-use Rattle.switch_runner.specs.Report.{HasCells}
+use Rattle.report_text.specs.Report.{HasCells}
 
 module _ (names : Names) where
   -- what a header is executed on

@@ -1,27 +1,17 @@
 -- The text from a field or a register on.
-use Rattle.std.proofs.Common.{◌≡◌, ◌∙◌, ◌<◌, ◌≤◌, ◌+◌, ◌-◌, ◌*◌, take, arith, ℕ, zero, suc, ℤ, pos, List, [], ◌∷◌, ◌++◌, length, map, drop, get_or, slice_index, Some, refl, sym, ap, add-one, drop-cons}
+use Rattle.std.proofs.Common.{◌≡◌, ◌∙◌, ◌<◌, ◌≤◌, ◌+◌, ◌-◌, ◌*◌, take, arith, ℕ, zero, suc, ℤ, pos, List, [], ◌∷◌, ◌++◌, length, drop, get_or, slice_index, refl, sym, ap, add-one, drop-cons}
 use Rattle.std.specs.Fmt.{signed_decimal}
-use Rattle.std.specs.List.{slice_get}
-use Rattle.std.proofs.lemmas.Option.{get_or_from_slice_get}
 use Rattle.capture_io.specs.Rows.{rows}
 use Rattle.std.proofs.lemmas.Grind.{flat_map-append}
-use Rattle.std.proofs.lemmas.List.{append-nil, get_or-map, length-map, map-append, take_more, drop_more}
+use Rattle.std.proofs.lemmas.List.{append-nil, get_or-map, length-map, drop_more}
 use Rattle.mp5_words.specs.Cells.{word_at, cells_at}
 use Rattle.domino_tree.specs.declared.program.Program.{Program}
 use Rattle.domino_tree.specs.Value.{Array, names_of, cell_counts}
 use Rattle.domino_names.specs.declared.infos.ArrayInfo.{ArrayInfo}
-use Rattle.switch_runner.specs.Report.{label, fields_text, packet_line, packet_lines, cell_line, cell_lines, register_lines, AreDeclared, HasCells, done_line, run_text, text_of}
+use Rattle.report_text.specs.Report.{fields_text, packet_line, packet_lines, cell_line, cell_lines, register_lines, AreDeclared, HasCells, done_line, run_text, text_of}
 
 both : {A B C : Type 0} (f : A → B → C) (a a' : A) (b b' : B) → a ≡ a' → b ≡ b' → f a b ≡ f a' b'
 both f a a' b b' p q = ap (λ x. f x b) p ∙ ap (f a') q
-
--- the label of the next field stands behind those so far
-pub label_next : (names : List (List ℕ)) (i : ℕ) (name text : List ℕ) (labels new : List (List ℕ)) → i < length names → slice_get names i ≡ Some name → text ≡ label name → labels ≡ map label (take i names)
-    → new ≡ labels ++ (text ∷ []) → new ≡ map label (take (i + 1) names)
-label_next names i name text labels new h e t so_far is =
-    is
-    ∙ both (λ x y. x ++ (y ∷ [])) labels (map label (take i names)) text (label name) so_far t
-    ∙ sym (ap (map label) (take_more names i name h ∙ ap (λ y. take i names ++ (y ∷ [])) (get_or_from_slice_get names i name name e)) ∙ map-append label (take i names) (name ∷ []))
 
 -- a field and those after it
 pub fields_from : (ls : List (List ℕ)) (zs : List ℤ) (i : ℕ) (l e : List ℕ) (z d : ℤ) → i < length ls → i < length zs → l ≡ get_or ls i e → z ≡ get_or zs i d

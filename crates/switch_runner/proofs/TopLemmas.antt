@@ -15,7 +15,7 @@ use Rattle.domino_names.specs.Infos.{infos_of, array_of}
 use Rattle.domino_names.proofs.InfoLemmas.{infos_are}
 use Rattle.domino_tree.specs.Value.{Array, names_of, cell_counts}
 use Rattle.switch_runner.specs.Causes.{IsAccepted}
-use Rattle.switch_runner.specs.Report.{label, AreDeclared, HasCells, run_text, report}
+use Rattle.report_text.specs.Report.{label, AreDeclared, HasCells, run_text, report}
 use Rattle.switch_runner.proofs.Lengths.{one-packets, one-cells}
 use Rattle.domino_syntax.specs.ProgramText.{IsProgramText}
 use Rattle.switch_runner.specs.Top.{AreWide}

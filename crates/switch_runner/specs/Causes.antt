@@ -24,8 +24,9 @@ use Rattle.switch_runner.specs.declared.command_line.Mode.TheVariants.{One}
 use Rattle.switch_runner.specs.CommandLine.{Request}
 use Rattle.switch_runner.specs.Outside.{StoreView, SinkView, Rose, TookFront, gained}
 use Rattle.switch_runner.specs.HelpText.{help_text}
-use Rattle.switch_runner.specs.RefusalLine.{program_line, refusal_line}
-use Rattle.switch_runner.specs.Report.{report}
+use Rattle.report_text.specs.RefusalLine.{refusal_line}
+use Rattle.switch_runner.specs.ProgramLine.{program_line}
+use Rattle.report_text.specs.Report.{report}
 
 -- the text is a program of the grammar, which passes the checks
 pub record IsAccepted (text : List ℕ) (program : Program) : Type 0 where

@@ -6,14 +6,15 @@ pub use Rattle.domino_eval.specs.Parts
 pub use Rattle.capture_io.specs.ClassicCapture
 pub use Rattle.capture_io.specs.Header
 pub use Rattle.capture_io.specs.Refusal
+pub use Rattle.report_text.specs.Report
+pub use Rattle.report_text.specs.RefusalLine
 pub mod Outside
 pub mod Faults
 pub mod Running
 pub mod Writing
 pub mod CommandLine
-pub mod Report
 pub mod HelpText
-pub mod RefusalLine
+pub mod ProgramLine
 pub mod Causes
 pub mod Laws
 pub mod Transfer

@@ -10,7 +10,6 @@ mod command_line;
 mod edge;
 mod fabric;
 mod help;
-mod labels;
 mod limits;
 mod line;
 mod memory;

@@ -3,7 +3,8 @@ ghost use Rattle.std.specs.Prelude.{◌≡◌, ◌<◌, ◌/◌, ◌%◌, decima
 ghost use Rattle.std.specs.Fmt.{signed_decimal};
 ghost use Rattle.std.specs.List.{flat_map};
 ghost use Rattle.switch_runner.specs.Causes.{line};
-ghost use Rattle.switch_runner.specs.RefusalLine.{hex_digit, hex_word, with_one, with_two, with_name, with_pair, what_word, text_line, check_line, program_line, refusal_line};
+ghost use Rattle.report_text.specs.RefusalLine.{hex_digit, hex_word, with_one, with_two, with_name, with_pair, what_word, check_line, refusal_line};
+ghost use Rattle.switch_runner.specs.ProgramLine.{text_line, program_line};
 ghost use Rattle.switch_runner.specs.Writing.{Writes};
 
 use crate::help::help_text;

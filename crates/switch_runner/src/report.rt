@@ -7,7 +7,7 @@ ghost use Rattle.mp5_words.specs.Cells.{cells_at};
 ghost use Rattle.switch_runner.specs.Outside.{Grew, Stopped};
 ghost use Rattle.domino_tree.specs.Value.{names_of, cell_counts};
 ghost use Rattle.switch_runner.specs.Writing.{Puts, at};
-ghost use Rattle.switch_runner.specs.Report.{fields_text, packet_line, packet_lines, register_line, cell_line, cell_lines, register_lines, AreDeclared, HasCells, done_line, table_text, text_of};
+ghost use Rattle.report_text.specs.Report.{fields_text, packet_line, packet_lines, register_line, cell_line, cell_lines, register_lines, AreDeclared, HasCells, done_line, table_text, text_of};
 
 use crate::block::Block;
 use crate::outside::{Failed, Sink};

@@ -6,13 +6,12 @@ ghost use Rattle.switch_runner.specs.Causes.{IsAccepted, ComesWhere, report_of};
 ghost use Rattle.switch_runner.specs.CommandLine.{AsksForHelp, IsRefused, request_with};
 ghost use Rattle.switch_runner.specs.Laws.{Because, CaptureAlways, IsComplete, Laws, ProgramAlways, ReadsAsked, Reports, StopsAtProgram, Tells, request, texts};
 ghost use Rattle.switch_runner.specs.Outside.{ChangesOnly, IsKept};
-ghost use Rattle.switch_runner.specs.Report.{report};
+ghost use Rattle.report_text.specs.Report.{report};
 ghost use Rattle.switch_runner.specs.Top.{AreWide, NoSource, NoHeaders, NotAccepted, Ends, Serves};
 
 use crate::block::Block;
 use crate::command_line::{Mode, asked};
 use crate::fabric::Fabric;
-use crate::labels::labels_of;
 use crate::limits::{MAX_CAPTURE, MAX_TEXT};
 use crate::line::write_line;
 use crate::outside::{Failed, Sink, Store};
@@ -24,6 +23,7 @@ use capture_io::{Capture, read_capture};
 use domino_check::{Checked, check};
 use domino_syntax::read_program;
 use mp5_words::FieldNames;
+use report_text::labels_of;
 use std::alloc::Global;
 
 /// Runs the program on the words of a command line, whose first word is the program's own name.

@@ -1,7 +1,7 @@
 use Rattle.std.proofs.Common.{◌∙◌, ℤ, codes, sym, ap, rules, w32, FitsSigned}
 use Rattle.std.specs.Fmt.{signed_decimal}
 use Rattle.std.proofs.lemmas.Int.{to_z-of_z}
-use Rattle.switch_runner.specs.RefusalLine.{with_pair, check_line}
+use Rattle.report_text.specs.RefusalLine.{with_pair, check_line}
 use Rattle.switch_runner.proofs.WritingLemmas.{puts_same}
 use Rattle.switch_runner.proofs.line.write_check_refusal.Goals as goal
 

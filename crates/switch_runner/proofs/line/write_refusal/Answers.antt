@@ -1,5 +1,5 @@
 use Rattle.std.proofs.Common.{◌∙◌, List, ℕ, [], ◌∷◌, ◌++◌, codes, sym, ap}
-use Rattle.switch_runner.specs.RefusalLine.{with_one, with_two, refusal_line}
+use Rattle.report_text.specs.RefusalLine.{with_one, with_two, refusal_line}
 use Rattle.switch_runner.proofs.WritingLemmas.{puts_same}
 use Rattle.switch_runner.proofs.line.write_refusal.Goals as goal
 

@@ -1,6 +1,6 @@
 use Rattle.std.proofs.Common.{drop}
 use Rattle.switch_runner.specs.Writing.{at}
-use Rattle.switch_runner.specs.Report.{register_lines, text_of}
+use Rattle.report_text.specs.Report.{register_lines, text_of}
 use Rattle.switch_runner.proofs.WritingLemmas.{Goes}
 use Rattle.switch_runner.proofs.report.put_arrays.Given as goal
 

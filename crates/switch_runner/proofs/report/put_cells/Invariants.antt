@@ -1,7 +1,7 @@
 use Rattle.std.proofs.Common.{drop}
 use Rattle.mp5_words.specs.Cells.{cells_at}
 use Rattle.switch_runner.specs.Writing.{at}
-use Rattle.switch_runner.specs.Report.{cell_lines, text_of}
+use Rattle.report_text.specs.Report.{cell_lines, text_of}
 use Rattle.switch_runner.proofs.WritingLemmas.{Goes}
 use Rattle.switch_runner.proofs.report.put_cells.Given as goal
 

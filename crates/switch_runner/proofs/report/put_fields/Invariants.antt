@@ -1,6 +1,6 @@
 use Rattle.std.proofs.Common.{drop}
 use Rattle.switch_runner.specs.Writing.{at}
-use Rattle.switch_runner.specs.Report.{fields_text}
+use Rattle.report_text.specs.Report.{fields_text}
 use Rattle.switch_runner.proofs.WritingLemmas.{Goes}
 use Rattle.switch_runner.proofs.report.put_fields.Given as goal
 

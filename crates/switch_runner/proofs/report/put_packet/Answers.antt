@@ -1,6 +1,6 @@
 use Rattle.std.proofs.Common.{◌∷◌, [], ◌++◌, ◌∙◌, sym, ap, refl}
 use Rattle.std.proofs.lemmas.Result.{err_from_is_err_and}
-use Rattle.switch_runner.specs.Report.{fields_text}
+use Rattle.report_text.specs.Report.{fields_text}
 use Rattle.switch_runner.proofs.WritingLemmas.{goes_start, goes_on, goes_broken, puts_last}
 use Rattle.switch_runner.proofs.report.put_packet.Goals as goal
 

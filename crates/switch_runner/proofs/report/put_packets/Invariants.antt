@@ -1,7 +1,7 @@
 use Rattle.std.proofs.Common.{◌≡◌, ◌-◌, ◌*◌, length}
 use Rattle.capture_io.specs.Rows.{rows}
 use Rattle.switch_runner.specs.Writing.{at}
-use Rattle.switch_runner.specs.Report.{packet_lines, text_of}
+use Rattle.report_text.specs.Report.{packet_lines, text_of}
 use Rattle.switch_runner.proofs.WritingLemmas.{Goes}
 use Rattle.switch_runner.proofs.report.put_packets.Given as goal
 

@@ -1,6 +1,6 @@
 use Rattle.std.proofs.Common.{◌∙◌, List, ℕ, map, ap, subst}
 use Rattle.switch_runner.specs.Outside.{Grew, Stopped}
-use Rattle.switch_runner.specs.Report.{label}
+use Rattle.report_text.specs.Report.{label}
 use Rattle.switch_runner.proofs.TopLemmas.{words_length, has_cells, declared, text_is}
 use Rattle.switch_runner.proofs.top.run_in_order.Goals as goal
 

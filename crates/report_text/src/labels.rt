@@ -1,13 +1,19 @@
 //! What stands before the fields' values in the line of a packet.
 ghost use Rattle.std.specs.Prelude.{◌≡◌, map, IfOk};
-ghost use Rattle.switch_runner.specs.Report.{label};
+ghost use Rattle.report_text.specs.Report.{label};
 
-use mp5_words::{FieldNames, Name};
+use mp5_words::{FieldNames, Name, NoMemory};
 use sqlite_items::Items;
 use std::alloc::{AllocError, Global};
 
 /// The label of each field, put together once for all packets.
-pub(crate) fn labels_of(alloc: Global, names: &FieldNames) -> Result<Vec<Items<u8>>, AllocError>
+pub fn labels_of(alloc: Global, names: &FieldNames) -> Result<Vec<Items<u8>>, NoMemory>
+    ensures { IfOk result (λ labels. labels.items ≡ map label names.now) }
+{
+    Ok(all_labels(alloc, names)?)
+}
+
+fn all_labels(alloc: Global, names: &FieldNames) -> Result<Vec<Items<u8>>, AllocError>
     ensures { IfOk result (λ labels. labels.items ≡ map label names.now) }
 {
     let mut labels = Vec::new(alloc);

@@ -1,6 +1,6 @@
 use Rattle.std.proofs.Common.{arith}
-use Rattle.switch_runner.proofs.ReportLemmas.{label_next}
-use Rattle.switch_runner.proofs.labels.labels_of.Goals as goal
+use Rattle.report_text.proofs.LabelLemmas.{label_next}
+use Rattle.report_text.proofs.labels.all_labels.Goals as goal
 
 pub loop-i-preserved : goal.loop-i-preserved
 loop-i-preserved c =

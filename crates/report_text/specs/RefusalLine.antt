@@ -1,17 +1,13 @@
--- The lines that tell of a refused program and of a refused capture: the refusal's number and the values that
--- it keeps.
+-- The lines that tell of a program that a check refuses and of a refused capture: the refusal's number and the values
+-- that it keeps.
 use Rattle.std.specs.Prelude.{ℕ, ◌+◌, ◌^◌, ◌/◌, ◌%◌, nat_lt, if◌then◌else◌, List, [], ◌∷◌, ◌++◌, map, codes, decimal}
 use Rattle.std.specs.Fmt.{signed_decimal}
 use Rattle.capture_io.specs.declared.fault.CaptureFault.{CaptureFault}
 use Rattle.capture_io.specs.declared.fault.CaptureFault.TheVariants.{TooLong, ShortHeader, PcapNg, BadMagic, Version, LinkType, LongRecord, Truncated, TooMany, NoMemory}
-use Rattle.domino_syntax.specs.declared.fault.TextFault.{TextFault}
-use Rattle.domino_syntax.specs.declared.fault.TextFault.TheVariants as text
 use Rattle.domino_names.specs.declared.fault.What.{What}
 use Rattle.domino_names.specs.declared.fault.What.TheVariants as what
 use Rattle.domino_names.specs.declared.fault.CheckFault.{CheckFault}
 use Rattle.domino_names.specs.declared.fault.CheckFault.TheVariants as check
-use Rattle.switch_runner.specs.declared.status.ProgramFault.{ProgramFault}
-use Rattle.switch_runner.specs.declared.status.ProgramFault.TheVariants as program
 
 -- a hexadecimal digit, with `a` to `f` in lower case
 abbrev pub hex_digit : ℕ → ℕ
@@ -28,14 +24,6 @@ with_one text n = text ++ (decimal n ++ (10 ∷ []))
 -- a text and two values with a space between them, as a line
 abbrev pub with_two : List ℕ → ℕ → ℕ → List ℕ
 with_two text a b = text ++ (decimal a ++ (32 ∷ (decimal b ++ (10 ∷ []))))
-
--- the line of a text that isn't read; want of memory has that of its own status
-abbrev pub text_line : TextFault → List ℕ
-text_line (text.TooLong n) = with_one (codes "mp5: program 1 ") n
-text_line (text.BadToken at) = with_one (codes "mp5: program 2 ") at
-text_line (text.TooDeep n) = with_one (codes "mp5: program 4 ") n
-text_line (text.Syntax n) = with_one (codes "mp5: program 3 ") n
-text_line text.NoMemory = codes "mp5: no memory\n"
 
 -- a text and a name, as a line
 abbrev pub with_name : List ℕ → List ℕ → List ℕ
@@ -63,12 +51,6 @@ check_line (check.TooMany w n) = with_pair (codes "mp5: program 10 ") (what_word
 check_line (check.IndexDiffers name) = with_name (codes "mp5: program 11 ") name
 check_line (check.IndexMoves name) = with_name (codes "mp5: program 12 ") name
 check_line check.NoMemory = codes "mp5: no memory\n"
-
--- the line of a refused program
-abbrev pub program_line : ProgramFault → List ℕ
-program_line (program.Text f) = text_line f
-program_line (program.Check f) = check_line f
-program_line program.NoMemory = codes "mp5: no memory\n"
 
 -- the line of a refused capture
 abbrev pub refusal_line : CaptureFault → List ℕ
