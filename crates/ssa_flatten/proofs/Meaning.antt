@@ -126,7 +126,7 @@ module _ (header : ℕ) (shapes : List ArrayShape) (lines : List GuardLine) (val
     below : nat_lt a (length shapes) ≡ true → a < length shapes
     below e = grind (arith, nat_tests, e)
 
-  there : Each (ArrayBelow shapes header (length shapes)) lines
+  pub there : Each (ArrayBelow shapes header (length shapes)) lines
   there = targets lines (whole.lines_fit header shapes lines valid)
 
   lives : Lives (length shapes) instrs
@@ -162,7 +162,7 @@ module _ (header : ℕ) (shapes : List ArrayShape) (lines : List GuardLine) (val
     abbrev ended : Guarded V
     ended = guard_lines V d (indexes_of V d.ops shapes) lines (guard_start V d (length shapes) words)
 
-    stands : Stands V value done ended
+    pub stands : Stands V value done ended
     stands = outcome header shapes lines V d arrays words long plain there flat.copies order
 
     -- what the lines know of a touched array is what its operands stand for

@@ -1,0 +1,61 @@
+-- The value of each instruction of flat code, and what a touched array's Index holds.
+use Rattle.std.proofs.Common.{◌≡◌, ℕ, zero, suc, ◌+◌, ◌<◌, true, List, [], ◌∷◌, length, get_or, Some, sym, ap, subst, ◌∙◌, arith}
+use Rattle.mp5_words.specs.Domain.{Domain}
+use Rattle.mp5_words.specs.Copies.{Copy, at}
+use Rattle.domino_tree.specs.declared.program.Program.{Program}
+use Rattle.code_forms.specs.declared.guard.GuardCode.{GuardCode}
+use Rattle.code_forms.specs.declared.flat.FlatCode.{FlatCode}
+use Rattle.code_forms.specs.declared.flat.Operand.{Operand}
+use Rattle.code_forms.specs.FlatMeaning.{Step, Slots, step_value, run_from, index_slot, index_operand, steps_of}
+use Rattle.code_forms.specs.FlatValid.{Indexes, Loads, Stores, events, is_life, is_some}
+use Rattle.code_forms.proofs.FlatLemmas.{AllHold, InOrder, runs_hold}
+use Rattle.ssa_flatten.specs.Flattening.{flat_steps, flat_instrs}
+use Rattle.ssa_flatten.specs.Flattened.{under_of}
+use Rattle.ssa_flatten.proofs.Meaning as meaning
+use Rattle.ssa_flatten.proofs.Outcome.{steps_back}
+use Rattle.ssa_flatten.proofs.Sound.{CopySound, slots}
+use Rattle.ssa_flatten.proofs.Whole as whole
+use Rattle.domino_compile.specs.GroupsCode.{IsCodeOf}
+use Rattle.domino_compile.proofs.GroupsStand.{known, env}
+use Rattle.domino_compile.proofs.GroupsIndex.{whole_life}
+
+-- one of the steps that hold
+pub holds_at : (V : Type 0) (d : Domain V) (slots : Slots) (env : List V) (k : ℕ) (steps : List Step) (i : ℕ) (none : Step) → i < length steps → AllHold V d slots env k steps → at V d.ops env (k + i) ≡ step_value V d slots env (get_or steps i none)
+holds_at V d slots env k [] i none less held = absurd (omega arith)
+holds_at V d slots env k (s ∷ steps) zero none less held = ap (at V d.ops env) (omega arith) ∙ held.0
+holds_at V d slots env k (s ∷ steps) (suc i) none less held = ap (at V d.ops env) (omega arith) ∙ holds_at V d slots env (suc k) steps i none (omega (arith, less)) held.2
+
+module _ (p : Program) (g : GuardCode) (f : FlatCode) (is : IsCodeOf p g f) where
+  -- the steps of the code
+  abbrev pub steps : List Step
+  steps = flat_steps g.fields g.arrays g.lines
+
+  pub steps_are : steps_of f.arrays f.instrs ≡ steps
+  steps_are =
+      ap (steps_of f.arrays) is.instrs
+      ∙ steps_back g.fields g.arrays g.lines (meaning.there g.fields g.arrays g.lines g.valid f.arrays is.flat_arrays) f.arrays is.flat_arrays.copies
+
+  in_order : InOrder (index_slot f.instrs f.fields) f.fields steps
+  in_order =
+      subst (λ n. InOrder (index_slot f.instrs n) n steps) (sym is.width)
+      (subst (λ l. InOrder (index_slot l g.fields) g.fields steps) (sym is.instrs)
+      (meaning.order g.fields g.arrays g.lines g.valid f.arrays is.flat_arrays))
+
+  -- a touched array is indexed, loaded and stored
+  pub life_is : (a : ℕ) (c : Copy Operand) → known p g f is a ≡ Some c → events a f.instrs ≡ Indexes ∷ Loads ∷ Stores ∷ []
+  life_is a c e =
+      let h = subst (CopySound g.fields (length g.arrays) (slots g.fields (length g.arrays) (whole.front g.fields g.arrays g.lines g.valid)) (events a (whole.front g.fields g.arrays g.lines g.valid)) (index_operand (whole.front g.fields g.arrays g.lines g.valid) a)) e ((whole.sound g.fields g.arrays g.lines g.valid).copies a) in
+      let some : is_some (under_of (known p g f is a)) ≡ true = ap (λ o. is_some (under_of o)) e ∙ h.2 in
+      ap (events a) is.instrs ∙ whole_life _ (sym (ap (λ b. is_life b (events a (flat_instrs g.fields g.arrays g.lines))) some) ∙ whole.life g.fields g.arrays g.lines g.valid a)
+
+  module _ (V : Type 0) (d : Domain V) (header : List V) (long : length header ≡ length p.packet.fields) where
+    abbrev pub values : List V
+    values = env p g f is V d header long
+
+    all_hold : AllHold V d (index_slot f.instrs f.fields) values f.fields steps
+    all_hold =
+        subst (λ l. AllHold V d (index_slot f.instrs f.fields) (run_from V d (index_slot f.instrs f.fields) l header) f.fields steps) (sym steps_are)
+        (runs_hold V d (index_slot f.instrs f.fields) steps header f.fields (long ∙ sym is.fields ∙ sym is.width) in_order)
+
+    pub value_at : (i : ℕ) (none : Step) → i < length steps → at V d.ops values (f.fields + i) ≡ step_value V d (index_slot f.instrs f.fields) values (get_or steps i none)
+    value_at i none less = holds_at V d (index_slot f.instrs f.fields) values f.fields steps i none less all_hold

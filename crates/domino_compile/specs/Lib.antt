@@ -1,0 +1,2 @@
+pub mod GroupsCode
+pub mod PlacesCode
