@@ -1,13 +1,15 @@
 -- The value of each instruction of flat code, and what a touched array's Index holds.
-use Rattle.std.proofs.Common.{◌≡◌, ℕ, zero, suc, ◌+◌, ◌<◌, true, List, [], ◌∷◌, length, get_or, Some, sym, ap, subst, ◌∙◌, arith}
+use Rattle.std.proofs.Common.{◌≡◌, ℕ, zero, suc, ◌+◌, ◌<◌, true, false, List, [], ◌∷◌, length, get_or, Option, None, Some, refl, sym, ap, subst, ◌∙◌, arith}
 use Rattle.mp5_words.specs.Domain.{Domain}
 use Rattle.mp5_words.specs.Copies.{Copy, at}
 use Rattle.domino_tree.specs.declared.program.Program.{Program}
 use Rattle.code_forms.specs.declared.guard.GuardCode.{GuardCode}
 use Rattle.code_forms.specs.declared.flat.FlatCode.{FlatCode}
 use Rattle.code_forms.specs.declared.flat.Operand.{Operand}
-use Rattle.code_forms.specs.FlatMeaning.{Step, Slots, step_value, run_from, index_slot, index_operand, steps_of}
-use Rattle.code_forms.specs.FlatValid.{Indexes, Loads, Stores, events, is_life, is_some}
+use Rattle.code_forms.specs.declared.flat.Instr.{Instr}
+use Rattle.code_forms.specs.declared.flat.Instr.TheVariants as instr
+use Rattle.code_forms.specs.FlatMeaning.{Step, plain_step, Slots, instr_value, step_value, copy_in, run_from, index_slot, index_operand, steps_of}
+use Rattle.code_forms.specs.FlatValid.{Indexes, Loads, Stores, events, is_life, is_some, makes_copy, instr_at}
 use Rattle.code_forms.proofs.FlatLemmas.{AllHold, InOrder, runs_hold}
 use Rattle.ssa_flatten.specs.Flattening.{flat_steps, flat_instrs}
 use Rattle.ssa_flatten.specs.Flattened.{under_of}
@@ -15,9 +17,11 @@ use Rattle.ssa_flatten.proofs.Meaning as meaning
 use Rattle.ssa_flatten.proofs.Outcome.{steps_back}
 use Rattle.ssa_flatten.proofs.Sound.{CopySound, slots}
 use Rattle.ssa_flatten.proofs.Whole as whole
+use Rattle.flat_graph.specs.Orders.{copies_in}
 use Rattle.domino_compile.specs.GroupsCode.{IsCodeOf}
-use Rattle.domino_compile.proofs.GroupsStand.{known, env}
-use Rattle.domino_compile.proofs.GroupsIndex.{whole_life}
+use Rattle.domino_compile.proofs.GroupsStand.{known, env, value}
+use Rattle.domino_compile.proofs.GroupsIndex.{whole_life, IndexAt, index_there}
+use Rattle.domino_compile.proofs.GroupsOwners.{copy_makes, step_there, steps_long}
 
 -- one of the steps that hold
 pub holds_at : (V : Type 0) (d : Domain V) (slots : Slots) (env : List V) (k : ℕ) (steps : List Step) (i : ℕ) (none : Step) → i < length steps → AllHold V d slots env k steps → at V d.ops env (k + i) ≡ step_value V d slots env (get_or steps i none)
@@ -59,3 +63,21 @@ module _ (p : Program) (g : GuardCode) (f : FlatCode) (is : IsCodeOf p g f) wher
 
     pub value_at : (i : ℕ) (none : Step) → i < length steps → at V d.ops values (f.fields + i) ≡ step_value V d (index_slot f.instrs f.fields) values (get_or steps i none)
     value_at i none less = holds_at V d (index_slot f.instrs f.fields) values f.fields steps i none less all_hold
+
+    -- the slot of a touched array's Index holds its place
+    pub index_value_is : (a : ℕ) (k : Copy Operand) → known p g f is a ≡ Some k → at V d.ops values (index_slot f.instrs f.fields a) ≡ d.index a (value p g f is V d header long k.index)
+    index_value_is a k e =
+        let here : IndexAt f.instrs f.fields a = index_there f.instrs f.fields a (Loads ∷ Stores ∷ []) (life_is a k e) in
+        let there : here.place < length steps = omega (arith, here.there, ap length (sym steps_are), steps_long f.arrays f.instrs) in
+        let operand_is : index_operand f.instrs a ≡ k.index = ap (λ l. index_operand l a) is.instrs ∙ meaning.index_is g.fields g.arrays g.lines g.valid f.arrays is.flat_arrays a k e in
+        ap (at V d.ops values) here.slot_is
+        ∙ value_at here.place (plain_step (instr.Load 0)) there
+        ∙ ap (step_value V d (index_slot f.instrs f.fields) values) (sym (ap (λ l. get_or l here.place (plain_step (instr.Load 0))) steps_are) ∙ step_there f.arrays f.instrs here.place (plain_step (instr.Load 0)) here.there)
+        ∙ index_step a (copy_in (copies_in f.arrays) 0 here.place) (instr_at f.instrs here.place) k.index (copy_makes f.fields f.arrays f.instrs f.last f.valid here.place)
+        (here.instr_is ∙ ap (instr.Index a) operand_is) where
+          index_step : (a : ℕ) (o : Option ℕ) (i : Instr) (x : Operand) → ((b : ℕ) → o ≡ Some b → makes_copy i ≡ true) → i ≡ instr.Index a x
+              → step_value V d (index_slot f.instrs f.fields) values (record { instr = i; copy = o }) ≡ d.index a (value p g f is V d header long x)
+          index_step a None i x makes same = ap (instr_value V d (index_slot f.instrs f.fields) values) same
+          index_step a (Some b) i x makes same = absurd (no_way (sym (ap makes_copy same) ∙ makes b refl)) where
+            no_way : false ≡ true → ⊥
+            no_way e = cc

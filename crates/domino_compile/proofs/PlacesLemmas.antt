@@ -26,7 +26,7 @@ open_stands value None = refl
 open_stands value (Some c) = sym (any_stands value c.under)
 
 module _ (p : Program) (g : GuardCode) (f : FlatCode) (is : IsCodeOf p g f) (header : List ℤ) (long : length header ≡ length p.packet.fields) where
-  marks_long : length (header_marks header) ≡ length p.packet.fields
+  pub marks_long : length (header_marks header) ≡ length p.packet.fields
   marks_long = length-map header (mark []) ∙ long
 
   -- what is known of an array in operands stands for what the header tells of it

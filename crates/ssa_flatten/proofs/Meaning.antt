@@ -142,7 +142,7 @@ module _ (header : ℕ) (shapes : List ArrayShape) (lines : List GuardLine) (val
   abbrev front_sound : ℕ → Option (Copy Operand) → Type 0
   front_sound a = CopySound header (length shapes) (slots header (length shapes) (whole.front header shapes lines valid)) (events a (whole.front header shapes lines valid)) (index_operand (whole.front header shapes lines valid) a)
 
-  index_is : (a : ℕ) (k : Copy Operand) → get_or done.copies a None ≡ Some k → index_operand instrs a ≡ k.index
+  pub index_is : (a : ℕ) (k : Copy Operand) → get_or done.copies a None ≡ Some k → index_operand instrs a ≡ k.index
   index_is a k is =
       let h = subst (front_sound a) is ((whole.sound header shapes lines valid).copies a) in
       ap (λ l. index_operand l a) (whole.parts header shapes lines valid)
