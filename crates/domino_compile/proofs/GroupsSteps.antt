@@ -45,12 +45,17 @@ module _ (p : Program) (g : GuardCode) (f : FlatCode) (is : IsCodeOf p g f) wher
       (subst (λ l. InOrder (index_slot l g.fields) g.fields steps) (sym is.instrs)
       (meaning.order g.fields g.arrays g.lines g.valid f.arrays is.flat_arrays))
 
+  -- a touched array has guards under which it is touched
+  pub some_guards : (a : ℕ) (c : Copy Operand) → known p g f is a ≡ Some c → is_some (under_of (known p g f is a)) ≡ true
+  some_guards a c e =
+      let h = subst (CopySound g.fields (length g.arrays) (slots g.fields (length g.arrays) (whole.front g.fields g.arrays g.lines g.valid)) (events a (whole.front g.fields g.arrays g.lines g.valid)) (index_operand (whole.front g.fields g.arrays g.lines g.valid) a)) e ((whole.sound g.fields g.arrays g.lines g.valid).copies a) in
+      ap (λ o. is_some (under_of o)) e ∙ h.2
+
   -- a touched array is indexed, loaded and stored
   pub life_is : (a : ℕ) (c : Copy Operand) → known p g f is a ≡ Some c → events a f.instrs ≡ Indexes ∷ Loads ∷ Stores ∷ []
   life_is a c e =
-      let h = subst (CopySound g.fields (length g.arrays) (slots g.fields (length g.arrays) (whole.front g.fields g.arrays g.lines g.valid)) (events a (whole.front g.fields g.arrays g.lines g.valid)) (index_operand (whole.front g.fields g.arrays g.lines g.valid) a)) e ((whole.sound g.fields g.arrays g.lines g.valid).copies a) in
-      let some : is_some (under_of (known p g f is a)) ≡ true = ap (λ o. is_some (under_of o)) e ∙ h.2 in
-      ap (events a) is.instrs ∙ whole_life _ (sym (ap (λ b. is_life b (events a (flat_instrs g.fields g.arrays g.lines))) some) ∙ whole.life g.fields g.arrays g.lines g.valid a)
+      ap (events a) is.instrs
+      ∙ whole_life _ (sym (ap (λ b. is_life b (events a (flat_instrs g.fields g.arrays g.lines))) (some_guards a c e)) ∙ whole.life g.fields g.arrays g.lines g.valid a)
 
   module _ (V : Type 0) (d : Domain V) (header : List V) (long : length header ≡ length p.packet.fields) where
     abbrev pub values : List V

@@ -6,3 +6,4 @@ pub mod GroupsIndex
 pub mod GroupsOwners
 pub mod GroupsSteps
 pub mod PlacesUnits
+pub mod GroupsShared
