@@ -7,3 +7,4 @@ pub mod GroupsOwners
 pub mod GroupsSteps
 pub mod PlacesUnits
 pub mod GroupsShared
+pub mod NeedsSteps
