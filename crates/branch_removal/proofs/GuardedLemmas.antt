@@ -18,7 +18,7 @@ use Rattle.branch_removal.specs.GuardedLines.{guarded}
 use Rattle.branch_removal.proofs.Trees
 
 -- a form of the source as one of guarded code
-abbrev form : {A : Type 0} → F.CheckedExpr-F A → G.GuardExpr-F A
+abbrev pub form : {A : Type 0} → F.CheckedExpr-F A → G.GuardExpr-F A
 form (F.CheckedExpr-F.Number n) = G.GuardExpr-F.Number n
 form (F.CheckedExpr-F.Field f) = G.GuardExpr-F.Field f
 form (F.CheckedExpr-F.Cell a) = G.GuardExpr-F.Cell a

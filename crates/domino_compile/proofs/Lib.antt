@@ -6,3 +6,12 @@ pub mod MeaningGroups
 pub mod MeaningRows
 pub mod MeaningWhole
 pub mod MeaningStart
+pub mod CountLemmas
+pub mod GroupsStand
+pub mod PlacesLemmas
+pub mod GroupsIndex
+pub mod GroupsOwners
+pub mod GroupsSteps
+pub mod PlacesUnits
+pub mod GroupsShared
+pub mod NeedsSteps

@@ -1,1 +1,3 @@
 pub mod MeaningKept
+pub mod GroupsCode
+pub mod PlacesCode

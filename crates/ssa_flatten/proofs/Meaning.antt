@@ -126,7 +126,7 @@ module _ (header : ℕ) (shapes : List ArrayShape) (lines : List GuardLine) (val
     below : nat_lt a (length shapes) ≡ true → a < length shapes
     below e = grind (arith, nat_tests, e)
 
-  there : Each (ArrayBelow shapes header (length shapes)) lines
+  pub there : Each (ArrayBelow shapes header (length shapes)) lines
   there = targets lines (whole.lines_fit header shapes lines valid)
 
   lives : Lives (length shapes) instrs
@@ -142,7 +142,7 @@ module _ (header : ℕ) (shapes : List ArrayShape) (lines : List GuardLine) (val
   abbrev front_sound : ℕ → Option (Copy Operand) → Type 0
   front_sound a = CopySound header (length shapes) (slots header (length shapes) (whole.front header shapes lines valid)) (events a (whole.front header shapes lines valid)) (index_operand (whole.front header shapes lines valid) a)
 
-  index_is : (a : ℕ) (k : Copy Operand) → get_or done.copies a None ≡ Some k → index_operand instrs a ≡ k.index
+  pub index_is : (a : ℕ) (k : Copy Operand) → get_or done.copies a None ≡ Some k → index_operand instrs a ≡ k.index
   index_is a k is =
       let h = subst (front_sound a) is ((whole.sound header shapes lines valid).copies a) in
       ap (λ l. index_operand l a) (whole.parts header shapes lines valid)
@@ -162,7 +162,7 @@ module _ (header : ℕ) (shapes : List ArrayShape) (lines : List GuardLine) (val
     abbrev ended : Guarded V
     ended = guard_lines V d (indexes_of V d.ops shapes) lines (guard_start V d (length shapes) words)
 
-    stands : Stands V value done ended
+    pub stands : Stands V value done ended
     stands = outcome header shapes lines V d arrays words long plain there flat.copies order
 
     -- what the lines know of a touched array is what its operands stand for
