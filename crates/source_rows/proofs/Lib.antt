@@ -2,3 +2,4 @@ mod NeedLemmas
 mod ChainLemmas
 mod StepLemmas
 pub mod PlaceLemmas
+pub mod BelowLemmas
