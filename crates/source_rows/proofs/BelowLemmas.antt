@@ -238,3 +238,8 @@ module _ (n : ℕ) where
     each_held : (body : List CheckedStmt) → Each HoldsStmt body
     each_held [] = tt
     each_held (x ∷ body) = (stmt_held x, each_held body)
+
+    -- a body keeps it
+    pub body_held : (body : List CheckedStmt) (s : Core Sources) → Held s → Held (block_walk p body None s)
+    unfolding HoldsWalk ContextBelow
+    body_held body s h = block_held body (each_held body) None s tt h

@@ -3,3 +3,4 @@ mod ChainLemmas
 mod StepLemmas
 pub mod PlaceLemmas
 pub mod BelowLemmas
+pub mod GroupLemmas

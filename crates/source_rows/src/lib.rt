@@ -3,6 +3,7 @@
 #![tactic(auto)]
 
 mod arrays;
+mod groups;
 mod mark;
 mod mark_values;
 mod marked;
@@ -16,5 +17,6 @@ mod sources;
 mod table;
 mod values;
 
+pub use groups::groups_of;
 pub use places::{array_places, open_arrays};
 pub use table::needs;
