@@ -1,7 +1,6 @@
 -- What stands behind a value is an array that is there.
-use Rattle.std.proofs.Common.{◌≡◌, ℕ, zero, suc, ℤ, ◌<◌, ◌≤◌, ◌==◌, List, [], ◌∷◌, ◌++◌, length, map, flat_map, get_or, slice_set, replicate, Option, None, Some, inl, inr, ◌⊎◌, refl, sym, ap, subst, ◌∙◌, length-set, arith}
-use Rattle.std.specs.List.{fold, slice_index_or}
-use Rattle.std.proofs.lemmas.Bool.Decides.{eqb_tells}
+use Rattle.std.proofs.Common.{◌≡◌, ℕ, zero, suc, ℤ, ◌<◌, List, [], ◌∷◌, ◌++◌, length, map, slice_set, Option, None, Some, inl, inr, refl, sym, ap, subst, ◌∙◌, length-set, arith}
+use Rattle.std.specs.List.{slice_index_or}
 use Rattle.mp5_words.specs.declared.op.Op1.{Op1}
 use Rattle.mp5_words.specs.declared.op.Op2.{Op2}
 use Rattle.mp5_words.specs.declared.hashing.HashKind.{HashKind}
@@ -54,7 +53,6 @@ module _ (n : ℕ) where
 
   abbrev ValueBelow : CheckedExpr → Type 0
   ValueBelow x = (w : Seen Sources) → ((f : ℕ) → Below (slice_index_or w.fields f [])) → ((a : ℕ) → Below (w.array a)) → Below (walk_value Sources source_ops x w)
-
 
   module _ (w : Seen Sources) (fields : (f : ℕ) → Below (slice_index_or w.fields f [])) (arrays : (a : ℕ) → Below (w.array a)) where
     args_below : (args : List CheckedExpr) → Each ValueBelow args → (k : ℕ) → Below (slice_index_or (map (λ (a : Value). a w) (map (walk_value Sources source_ops) args)) k [])
@@ -216,7 +214,7 @@ module _ (n : ℕ) where
         let g : Below (guard_in p context ++ arm_cond p arm context s) = below_both _ _ (guard_below context hc) (value_held arm.cond t k) in
         subst Held (sym (chain_next Sources sources p arm arms last context s))
         (chain_held arms last held.1 hl (Some (guard_in p context ++ arm_cond p arm context s)) (block_walk p arm.body (Some (guard_in p context ++ arm_cond p arm context s)) t) g
-            (held.0 (Some (guard_in p context ++ arm_cond p arm context s)) t g k))
+        (held.0 (Some (guard_in p context ++ arm_cond p arm context s)) t g k))
 
     nothing_held : HoldsWalk (last_in p None)
     unfolding HoldsWalk

@@ -1,17 +1,14 @@
 -- Groups by a closed table of needs are the program's.
-use Rattle.std.proofs.Common.{◌≡◌, ℕ, zero, suc, ◌+◌, ◌<◌, ◌≤◌, Bool, true, List, [], ◌∷◌, ◌++◌, length, map, get_or, replicate, Option, None, Some, inl, inr, ◌⊎◌, refl, sym, ap, subst, ◌∙◌, arith}
-use Rattle.std.specs.Prelude.{◌↔◌}
+use Rattle.std.proofs.Common.{◌≡◌, ℕ, zero, suc, ◌<◌, ◌≤◌, Bool, List, [], ◌∷◌, length, replicate, Option, None, Some, inl, inr, refl, sym, subst, arith}
 use Rattle.std.specs.List.{slice_index_or}
 use Rattle.std.proofs.lemmas.List.{length-replicate}
 use Rattle.mp5_words.specs.Copies.{Copy}
 use Rattle.domino_tree.specs.declared.program.Program.{Program}
 use Rattle.domino_tree.specs.Value.{names_of}
-use Rattle.domino_names.specs.Infos.{infos_of}
-use Rattle.domino_names.proofs.InfoLemmas.{length-infos}
 use Rattle.dependence.specs.Uses.{Member}
 use Rattle.dependence.specs.Reach.{Reaches, here, step}
-use Rattle.dependence.specs.Tables.{at, has, Marked, Closes}
-use Rattle.dependence.specs.Groups.{AreGroups, IsOn, Linked, group_of}
+use Rattle.dependence.specs.Tables.{Marked, Closes}
+use Rattle.dependence.specs.Groups.{AreGroups, IsOn, Linked}
 use Rattle.dependence.proofs.GroupLemmas.{groups_along}
 use Rattle.dependence.proofs.LevelLemmas.{linked, is_linked}
 use Rattle.domino_check.specs.Numbering.{numbered_body}

@@ -3,6 +3,8 @@
 #![tactic(auto)]
 
 mod arrays;
+#[cfg(test)]
+mod group_rows;
 mod groups;
 mod mark;
 mod mark_values;

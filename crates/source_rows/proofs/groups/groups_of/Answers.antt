@@ -1,4 +1,4 @@
-use Rattle.std.proofs.Common.{◌≤◌, List, length, None, Option, ◌∙◌, ap, subst, arith}
+use Rattle.std.proofs.Common.{◌≤◌, length, None, ◌∙◌, ap, subst, arith}
 use Rattle.std.specs.List.{slice_index_or}
 use Rattle.domino_tree.specs.Value.{names_of}
 use Rattle.domino_names.proofs.InfoLemmas.{length-infos}
