@@ -14,7 +14,7 @@ use Rattle.domino_check.specs.Numbering.{numbered_body}
 use Rattle.domino_check.specs.SourceWalk.{walked_program}
 use Rattle.domino_names.proofs.InfoLemmas.{length-infos}
 use Rattle.domino_check.specs.Walk.{Core, Branch, Walks, chain, walking, branching}
-use Rattle.source_rows.specs.Walking.{Copies, core, indexes_in, stmt_walk, block_walk, arm_branch, chain_walk, last_in, guard_in, arm_touched, arm_cond, cell_walk}
+use Rattle.source_rows.specs.Walking.{Copies, core, indexes_in, stmt_walk, block_walk, arm_branch, chain_walk, last_in, guard_in, arm_touched, arm_cond, field_walk, cell_walk}
 
 pub drop_next : {A : Type 0} (xs : List A) (i : ℕ) (x : A) → i < length xs → x ≡ get_or xs i x → drop i xs ≡ x ∷ drop (i + 1) xs
 drop_next xs i x within here = drop_more xs i x within ∙ ap (λ y. y ∷ drop (i + 1) xs) (sym here)
@@ -25,6 +25,12 @@ module _ (V : Type 0) (d : Domain V) (p : Program) where
 
   pub walk-Else : (arms : List CheckedArm) (body : List CheckedStmt) → stmt_walk V d p (s.If arms (Some body)) ≡ chain_walk V d p arms (Some (map (stmt_walk V d p) body))
   walk-Else arms body = ap (stmt_walk V d p) (sym (s.rolls-If arms (Some body))) ∙ fold-roll-CheckedStmt (Walks V) (Branch V) (walking V d (indexes_in V d p)) (branching V d (indexes_in V d p)) (O.CheckedStmt-F.If arms (Some body))
+
+  -- an assignment to a field
+  pub field_stmt : (stmt : CheckedStmt) (f : ℕ) (e expr : CheckedExpr) (context : Option V) (t : Core V) → stmt ≡ s.SetField f e → expr ≡ e → field_walk V d p f expr context t ≡ stmt_walk V d p stmt context t
+  field_stmt stmt f e expr context t is read =
+      ap (λ x. field_walk V d p f x context t) read
+      ∙ sym (ap (λ (w : Walks V). w context t) (ap (stmt_walk V d p) (is ∙ sym (s.rolls-SetField f e)) ∙ fold-roll-CheckedStmt (Walks V) (Branch V) (walking V d (indexes_in V d p)) (branching V d (indexes_in V d p)) (O.CheckedStmt-F.SetField f e)))
 
   -- an assignment to a cell
   pub cell_stmt : (stmt : CheckedStmt) (a : ℕ) (e expr : CheckedExpr) (context : Option V) (t : Core V) → stmt ≡ s.SetCell a e → expr ≡ e → cell_walk V d p a expr context t ≡ stmt_walk V d p stmt context t

@@ -2,3 +2,5 @@ mod NeedLemmas
 mod ChainLemmas
 mod StepLemmas
 pub mod PlaceLemmas
+pub mod BelowLemmas
+pub mod GroupLemmas

@@ -3,6 +3,9 @@
 #![tactic(auto)]
 
 mod arrays;
+#[cfg(test)]
+mod group_rows;
+mod groups;
 mod mark;
 mod mark_values;
 mod marked;
@@ -16,5 +19,6 @@ mod sources;
 mod table;
 mod values;
 
+pub use groups::groups_of;
 pub use places::{array_places, open_arrays};
 pub use table::needs;

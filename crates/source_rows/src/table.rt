@@ -23,7 +23,7 @@ pub fn needs(alloc: Global, checked: &Checked) -> Result<Table, NoMemory>
 }
 
 // The marks of each array's row.
-fn table_of(copies: &[Option<Copied>]) -> Table
+pub(crate) fn table_of(copies: &[Option<Copied>]) -> Table
     ensures { MarksPairs result (λ a b. StandsBehind b (slice_index_or copies.now a None)) }
 {
     let mut table = [[false; 16]; 16];
