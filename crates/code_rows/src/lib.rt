@@ -15,6 +15,8 @@ mod indexes;
 #[cfg(test)]
 mod layout_rows;
 #[cfg(test)]
+mod place_rows;
+#[cfg(test)]
 mod sizes;
 #[cfg(test)]
 mod tell;

@@ -28,7 +28,8 @@ pub(crate) fn arrays_of(alloc: Global, set: u16) -> Result<Vec<u32>, AllocError>
 /// Whether arrays can be sharded: each Index is clean, and all have one `same` and one length.
 pub(crate) fn can_shard(code: &FlatCode, clean: &[bool], group: &[u32]) -> bool
     requires { code.now.fields + length code.now.instrs < 2 ^ 32 }
-    ensures { result ≡ can_shard clean.now code.now.fields code.now.arrays code.now.instrs group.now }
+    ensures { result
+        ≡ can_shard clean.now code.now.fields code.now.arrays code.now.instrs group.now }
 {
     let first = group.first().copied().unwrap_or(0);
     for array in group {
