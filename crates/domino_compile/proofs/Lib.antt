@@ -8,3 +8,6 @@ pub mod GroupsSteps
 pub mod PlacesUnits
 pub mod GroupsShared
 pub mod NeedsSteps
+pub mod NeedsShown
+pub mod NeedsEnd
+pub mod NeedsNodes
