@@ -11,3 +11,4 @@ pub mod NeedsSteps
 pub mod NeedsShown
 pub mod NeedsEnd
 pub mod NeedsNodes
+pub mod NeedsLemmas

@@ -48,7 +48,7 @@ no_list zero k = refl
 no_list (suc n) zero = refl
 no_list (suc n) (suc k) = no_list n k
 
-one_of : (b a : ℕ) → Member b (a ∷ []) → b ≡ a
+pub one_of : (b a : ℕ) → Member b (a ∷ []) → b ≡ a
 one_of b a (inl e) = e
 one_of b a (inr m) = elim m [ ]
 
@@ -95,7 +95,7 @@ module _ (p : Program) (g : GuardCode) (f : FlatCode) (is : IsCodeOf p g f) wher
   pub node_inside : (i : ℕ) → i < length f.instrs → i < length (nodes f)
   node_inside i less = subst (λ n. i < n) (sym (node_length f.fields f.arrays f.instrs)) less
 
-  many : length all ≡ length f.instrs
+  pub many : length all ≡ length f.instrs
   many = ap length (sym (steps_are p g f is)) ∙ steps_long f.arrays f.instrs
 
   step_inside : (i : ℕ) → i < length f.instrs → i < length all
@@ -107,13 +107,13 @@ module _ (p : Program) (g : GuardCode) (f : FlatCode) (is : IsCodeOf p g f) wher
   pub node_is : (i : ℕ) → i < length f.instrs → node_at (nodes f) i ≡ node_of f.fields f.arrays f.instrs (get_or all i no_step)
   node_is i less = node_there f.fields f.arrays f.instrs i less ∙ ap (node_of f.fields f.arrays f.instrs) (sym (step_is i less))
 
-  owner_is : (i : ℕ) (o : Option ℕ) → i < length f.instrs → (node_at (nodes f) i).array ≡ o → array_of (get_or all i no_step) ≡ o
+  pub owner_is : (i : ℕ) (o : Option ℕ) → i < length f.instrs → (node_at (nodes f) i).array ≡ o → array_of (get_or all i no_step) ≡ o
   owner_is i o less e = ap (λ (n : Node). n.array) (sym (node_is i less)) ∙ e
 
   up_is : (i : ℕ) → i < length f.instrs → up i ≡ step_value (List ℕ) sources slots vals (get_or all i no_step)
   up_is i less = value_at p g f is (List ℕ) sources (no_sources p) long i no_step (step_inside i less)
 
-  fine : (i : ℕ) → i < length f.instrs → EndFine g.fields all copies (get_or all i no_step).copy (get_or all i no_step).instr
+  pub fine : (i : ℕ) → i < length f.instrs → EndFine g.fields all copies (get_or all i no_step).copy (get_or all i no_step).instr
   fine i less = end_fine p g f is i (step_inside i less)
 
   -- ---- what a node of an array shows, and what one of no array
