@@ -12,3 +12,4 @@ pub mod NeedsShown
 pub mod NeedsEnd
 pub mod NeedsNodes
 pub mod NeedsLemmas
+pub mod GroupsLemmas
