@@ -13,3 +13,4 @@ pub mod NeedsEnd
 pub mod NeedsNodes
 pub mod NeedsLemmas
 pub mod GroupsLemmas
+pub mod GroupsAgreement

@@ -1,2 +1,3 @@
 pub mod GroupsCode
 pub mod PlacesCode
+pub mod GroupsAgree
