@@ -23,28 +23,28 @@ whole_life (Indexes ∷ Loads ∷ Stores ∷ []) e = refl
 whole_life (Indexes ∷ Loads ∷ Stores ∷ x ∷ es) e = absurd cc
 
 -- the place of an array's first Index among instructions
-pub record IndexAt (xs : List Instr) (from a : ℕ) : Type 0 where
+pub record IndexAt (xs : List Instr) (a : ℕ) : Type 0 where
   pub place : ℕ
   pub there : place < length xs
   pub instr_is : instr_at xs place ≡ instr.Index a (index_operand xs a)
-  pub slot_is : index_slot xs from a ≡ from + place
+  pub slot_is : (from : ℕ) → index_slot xs from a ≡ from + place
 
-pub index_there : (xs : List Instr) (from a : ℕ) (fs : List Event) → events a xs ≡ Indexes ∷ fs → IndexAt xs from a
-index_there [] from a fs e = absurd cc
-index_there (x ∷ xs) from a fs e = elim (first_event x a (events a xs) fs e) [
+pub index_there : (xs : List Instr) (a : ℕ) (fs : List Event) → events a xs ≡ Indexes ∷ fs → IndexAt xs a
+index_there [] a fs e = absurd cc
+index_there (x ∷ xs) a fs e = elim (first_event x a (events a xs) fs e) [
   | inl is ↦ record {
     place = 0;
     there = omega arith;
     instr_is = is.1 ∙ ap (instr.Index a) (sym (ap (λ i. index_operand (i ∷ xs) a) is.1 ∙ operand_here a is.0 xs));
-    slot_is = ap (λ i. index_slot (i ∷ xs) from a) is.1 ∙ slot_here a is.0 xs from ∙ omega arith;
+    slot_is = λ from. ap (λ i. index_slot (i ∷ xs) from a) is.1 ∙ slot_here a is.0 xs from ∙ omega arith;
   }
   | inr none ↦
-      let rest : IndexAt xs (suc from) a = index_there xs (suc from) a fs (ap (λ l. l ++ events a xs) (sym none) ∙ e) in
+      let rest : IndexAt xs a = index_there xs a fs (ap (λ l. l ++ events a xs) (sym none) ∙ e) in
       record {
         place = suc rest.place;
         there = omega (arith, rest.there);
         instr_is = rest.instr_is ∙ ap (instr.Index a) (sym (operand_behind (x ∷ []) xs a (ap (λ l. l ++ []) none)));
-        slot_is = slot_past x xs from a none ∙ rest.slot_is ∙ omega arith;
+        slot_is = λ from. slot_past x xs from a none ∙ rest.slot_is (suc from) ∙ omega arith;
       }
 ]
 

@@ -72,10 +72,10 @@ module _ (p : Program) (g : GuardCode) (f : FlatCode) (is : IsCodeOf p g f) wher
     -- the slot of a touched array's Index holds its place
     pub index_value_is : (a : ℕ) (k : Copy Operand) → known p g f is a ≡ Some k → at V d.ops values (index_slot f.instrs f.fields a) ≡ d.index a (value p g f is V d header long k.index)
     index_value_is a k e =
-        let here : IndexAt f.instrs f.fields a = index_there f.instrs f.fields a (Loads ∷ Stores ∷ []) (life_is a k e) in
+        let here : IndexAt f.instrs a = index_there f.instrs a (Loads ∷ Stores ∷ []) (life_is a k e) in
         let there : here.place < length steps = omega (arith, here.there, ap length (sym steps_are), steps_long f.arrays f.instrs) in
         let operand_is : index_operand f.instrs a ≡ k.index = ap (λ l. index_operand l a) is.instrs ∙ meaning.index_is g.fields g.arrays g.lines g.valid f.arrays is.flat_arrays a k e in
-        ap (at V d.ops values) here.slot_is
+        ap (at V d.ops values) (here.slot_is f.fields)
         ∙ value_at here.place (plain_step (instr.Load 0)) there
         ∙ ap (step_value V d (index_slot f.instrs f.fields) values) (sym (ap (λ l. get_or l here.place (plain_step (instr.Load 0))) steps_are) ∙ step_there f.arrays f.instrs here.place (plain_step (instr.Load 0)) here.there)
         ∙ index_step a (copy_in (copies_in f.arrays) 0 here.place) (instr_at f.instrs here.place) k.index (copy_makes f.fields f.arrays f.instrs f.last f.valid here.place)

@@ -15,3 +15,9 @@ pub mod GroupsSteps
 pub mod PlacesUnits
 pub mod GroupsShared
 pub mod NeedsSteps
+pub mod NeedsShown
+pub mod NeedsEnd
+pub mod NeedsNodes
+pub mod NeedsLemmas
+pub mod GroupsLemmas
+pub mod GroupsAgreement

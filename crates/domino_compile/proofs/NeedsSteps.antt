@@ -93,7 +93,7 @@ at_behind [] ys n j d e = ap (λ k. get_or ys k d) (omega (arith, e))
 at_behind (x ∷ xs) ys zero j d e = absurd (omega (arith, e))
 at_behind (x ∷ xs) ys (suc n) j d e = at_behind xs ys n j d (omega (arith, e))
 
-at_both : {X : Type 0} (P : X → Type 0) (d : X) (xs ys : List X) → ((i : ℕ) → i < length xs → P (get_or xs i d)) → Each P ys → (i : ℕ) → i < length (xs ++ ys) → P (get_or (xs ++ ys) i d)
+pub at_both : {X : Type 0} (P : X → Type 0) (d : X) (xs ys : List X) → ((i : ℕ) → i < length xs → P (get_or xs i d)) → Each P ys → (i : ℕ) → i < length (xs ++ ys) → P (get_or (xs ++ ys) i d)
 at_both P d [] ys first all i less = each_at P d ys i less all
 at_both P d (x ∷ xs) ys first all zero less = first 0 (omega arith)
 at_both P d (x ∷ xs) ys first all (suc i) less = at_both P d xs ys (λ j l. first (suc j) (omega (arith, l))) all i (omega (arith, less))
@@ -192,7 +192,7 @@ module _ (fields : ℕ) where
     subst (λ (s : Step). Takes s.instr x) (sym (get_or_append_left steps more no_step h.0 h.1)) h.3,
   )
 
-  known_more : (steps more : List Step) (a : ℕ) (c : Copy Operand) → KnownBy steps a c → KnownBy (steps ++ more) a c
+  pub known_more : (steps more : List Step) (a : ℕ) (c : Copy Operand) → KnownBy steps a c → KnownBy (steps ++ more) a c
   known_more steps more a c h = record { latest = of_more steps more a c.latest h.latest; stored = λ x m. stored_more steps more a x (h.stored x m) }
 
   copy_more : (steps more : List Step) (c d : Copy Operand) (a : ℕ) (i : Instr) → Wider c d → CopyFine steps c a i → CopyFine (steps ++ more) d a i
@@ -219,7 +219,7 @@ module _ (fields : ℕ) where
   plain_more cs ds (instr.No g y) w h = tt
   plain_more cs ds (instr.Index b y) w h = tt
 
-  fine_more : (steps more : List Step) (cs ds : List (Option (Copy Operand))) (o : Option ℕ) (i : Instr) → Grows cs ds → StepFine steps cs o i → StepFine (steps ++ more) ds o i
+  pub fine_more : (steps more : List Step) (cs ds : List (Option (Copy Operand))) (o : Option ℕ) (i : Instr) → Grows cs ds → StepFine steps cs o i → StepFine (steps ++ more) ds o i
   fine_more steps more cs ds None i w h = plain_more cs ds i w h
   fine_more steps more cs ds (Some a) i w h = let r = w a h.0 h.1 in (r.0, r.1, copy_more steps more h.0 r.0 a i r.2 h.2)
 

@@ -1,3 +1,4 @@
 pub mod MeaningKept
 pub mod GroupsCode
 pub mod PlacesCode
+pub mod GroupsAgree
