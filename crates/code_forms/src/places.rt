@@ -21,6 +21,7 @@ impl StagedCode {
         ensures places { (g : ℕ) → g < 16 →
             slice_index out.new g ≡ place_code (place self.now header.now g) }
         ensures rest { (g : ℕ) → length self.now.groups ≤ g → g < 16 → slice_index out.new g ≡ 0 }
+        ensures few { length self.now.groups ≤ 16 }
         ensures units { HasUnits self.now header.now }
         ensures indexes { PlacesAreIndexes self.now }
     {

@@ -1,1 +1,4 @@
 mod LabelLemmas
+mod LineLemmas
+mod PlanLemmas
+mod TextLemmas

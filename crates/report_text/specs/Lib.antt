@@ -6,3 +6,4 @@ pub mod Report
 pub mod RefusalLine
 pub mod Room
 pub mod PlanLines
+pub mod PlanReading

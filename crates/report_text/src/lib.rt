@@ -4,9 +4,13 @@
 //! A `Line` has room for each line of its program before one is written.
 #![tactic(auto)]
 
+mod canonical;
 mod code_text;
+mod cursor;
 mod labels;
 mod line;
+mod plan_text;
 
 pub use labels::labels_of;
 pub use line::Line;
+pub use plan_text::PlanText;
