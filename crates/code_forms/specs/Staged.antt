@@ -42,7 +42,6 @@ staged_of fields arrays instrs last parts = record {
 }
 
 -- flat code in these parts
--- code in these parts
 abbrev pub in_parts : FlatCode → StagedParts → Staged
 in_parts code parts = staged_of code.fields code.arrays code.instrs code.last parts
 
