@@ -18,7 +18,7 @@ use Rattle.code_forms.proofs.StagedLemmas.{first_member, array_at, valued}
 use Rattle.code_forms.proofs.PartLemmas.{inside_order}
 
 -- an index is below the length
-cell_below : (z : ℤ) (n : ℕ) → 1 ≤ n → cell z n < n
+pub cell_below : (z : ℤ) (n : ℕ) → 1 ≤ n → cell z n < n
 cell_below (pos a) n some = omega (arith, some)
 cell_below (negsuc a) n some = omega (arith, some)
 
@@ -83,7 +83,7 @@ index_below c header g a u staged long below there store is =
     omega (arith, number, bound)
 
 -- a place at a group that isn't sharded is 0
-zero_place : (c : Staged) (room : List ℤ) (g : StagedGroup) (u : ℕ) → g.sharded ≡ false → place_on c room g ≡ Some u → u ≡ 0
+pub zero_place : (c : Staged) (room : List ℤ) (g : StagedGroup) (u : ℕ) → g.sharded ≡ false → place_on c room g ≡ Some u → u ≡ 0
 zero_place c room g u whole placed = chosen (list_any (is_touching c room) g.arrays) placed ∙ ap (λ (b : Bool). if b then natural (word_at room (slot_of_index c (first_array g))) else 0) whole where
   chosen : (b : Bool) → (if b then Some (unit_number c room g) else None) ≡ Some u → u ≡ unit_number c room g
   chosen true e = cc

@@ -66,7 +66,7 @@ group_set g of a e =
 
 -- ---- the first group of an array
 
-any_member : (a : ℕ) (xs : List ℕ) → list_any (λ b. b == a) xs ≡ true → Member a xs
+pub any_member : (a : ℕ) (xs : List ℕ) → list_any (λ b. b == a) xs ≡ true → Member a xs
 any_member a [] e = absurd cc
 any_member a (x ∷ xs) e = by (x == a) refl e (any_member a xs) where
   by : (b : Bool) → (x == a) ≡ b → (b || list_any (λ y. y == a) xs) ≡ true → (list_any (λ y. y == a) xs ≡ true → Member a xs) → Member a (x ∷ xs)

@@ -27,7 +27,8 @@ any_false : {A : Type 0} (f : A → Bool) (b : Bool) (xs : List A) → (b || lis
 any_false f true xs e = absurd cc
 any_false f false xs e = (refl, e)
 
-no_member : (f : ℕ → Bool) (xs : List ℕ) (a : ℕ) → list_any f xs ≡ false → Member a xs → f a ≡ false
+-- where a test takes none of a list, it takes no member
+pub no_member : (f : ℕ → Bool) (xs : List ℕ) (a : ℕ) → list_any f xs ≡ false → Member a xs → f a ≡ false
 no_member f [] a e m = elim m [ ]
 no_member f (x ∷ xs) a e (inl same) = ap f same ∙ (any_false f (f x) xs e).0
 no_member f (x ∷ xs) a e (inr m) = no_member f xs a (any_false f (f x) xs e).1 m

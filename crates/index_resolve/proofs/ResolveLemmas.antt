@@ -167,8 +167,7 @@ fits_at count [] i all = grind (arith, nat_tests)
 fits_at count (s ∷ spots) zero all = and_front (spot_fits count s) _ all
 fits_at count (s ∷ spots) (suc i) all = fits_at count spots i (and_back (spot_fits count s) _ all)
 
-module _ (code : FlatCode) (l : Layout) (packed : IsPacked code l) (parts : StagedParts) (are : ArePartsOf code l parts)
-    (header : parts.header ≡ header_steps (clean_slots code.fields code.arrays code.instrs) code.fields code.instrs) where
+module _ (code : FlatCode) (l : Layout) (packed : IsPacked code l) (parts : StagedParts) (are : ArePartsOf code l parts) where
   abbrev pub c : Staged
   c = in_parts code parts
 
@@ -181,13 +180,15 @@ module _ (code : FlatCode) (l : Layout) (packed : IsPacked code l) (parts : Stag
   low : (i : ℕ) → i < length c.instrs → part_at l.spot i < part_count l
   low i less = part_low (length l.arrays) (spot_at l.spot i) (fits_at (length l.arrays) l.spot i (and_front _ _ (and_back (nat_le (length l.arrays) 16) _ limits)))
 
-  abbrev of : List (Option ℕ)
+  abbrev pub of : List (Option ℕ)
   of = packed.layout.of
 
-  groups : AreGroups (IsTouched (nodes code)) (ArrayReaches (nodes code)) (length c.groups) of
+  -- the groups of the layout
+  pub groups : AreGroups (IsTouched (nodes code)) (ArrayReaches (nodes code)) (length c.groups) of
   groups = subst (λ n. AreGroups (IsTouched (nodes code)) (ArrayReaches (nodes code)) n of) (sym are.count) packed.layout.groups
 
-  arrays_are : (g : ℕ) → g < length c.groups → (group_at c g).arrays ≡ marked 0 (map (is_of g) of)
+  -- a group has the arrays whose number is its own
+  pub arrays_are : (g : ℕ) → g < length c.groups → (group_at c g).arrays ≡ marked 0 (map (is_of g) of)
   arrays_are g less =
       let inside : g < length l.arrays = omega (arith, less, are.count) in
       are.arrays_are g inside (map (is_of g) of) (length-map of (is_of g) ∙ packed.layout.wide) (packed.layout.sets_are g inside)
@@ -195,31 +196,32 @@ module _ (code : FlatCode) (l : Layout) (packed : IsPacked code l) (parts : Stag
   shards : (g : ℕ) → g < length c.groups → (group_at c g).sharded ≡ true → CanShard c.fields c.arrays c.instrs (group_at c g).arrays
   shards g less = (are.shards g (omega (arith, less, are.count))).0
 
-  slots : All (λ (s : HeaderStep). s.slot < slot_count c) c.header
-  slots = λ k d less. subst (λ steps. (get_or steps k d).slot < slot_count c) (sym header)
-      (header_slots_in (clean_slots code.fields code.arrays code.instrs) code.fields code.instrs k d (subst (λ (steps : List HeaderStep). k < length steps) header less))
+  module _ (header : parts.header ≡ header_steps (clean_slots code.fields code.arrays code.instrs) code.fields code.instrs) where
+    slots : All (λ (s : HeaderStep). s.slot < slot_count c) c.header
+    slots = λ k d less. subst (λ steps. (get_or steps k d).slot < slot_count c) (sym header)
+        (header_slots_in (clean_slots code.fields code.arrays code.instrs) code.fields code.instrs k d (subst (λ (steps : List HeaderStep). k < length steps) header less))
 
-  pub is_staged : IsStaged c
-  is_staged = record {
-    code = code.valid;
-    parts = are_parts c code.valid l.spot (part_count l) low packed.ordered are.order_is are.ends_are few (ap (λ n. 2 * n + 1) (sym are.count));
-    order = is_order c code.valid l.spot (part_count l) low packed.ordered are.order_is are.ends_are;
-    accesses = are_accesses c code.valid l.spot (part_count l) low packed.ordered are.order_is are.ends_are of packed.layout.wide groups packed.layout.placed arrays_are;
-    groups = λ g less. is_group c code.valid l.spot (part_count l) low packed.ordered are.order_is are.ends_are of packed.layout.wide groups packed.layout.placed arrays_are g less (shards g less);
-    header = slots;
-  }
+    pub is_staged : IsStaged c
+    is_staged = record {
+      code = code.valid;
+      parts = are_parts c code.valid l.spot (part_count l) low packed.ordered are.order_is are.ends_are few (ap (λ n. 2 * n + 1) (sym are.count));
+      order = is_order c code.valid l.spot (part_count l) low packed.ordered are.order_is are.ends_are;
+      accesses = are_accesses c code.valid l.spot (part_count l) low packed.ordered are.order_is are.ends_are of packed.layout.wide groups packed.layout.placed arrays_are;
+      groups = λ g less. is_group c code.valid l.spot (part_count l) low packed.ordered are.order_is are.ends_are of packed.layout.wide groups packed.layout.placed arrays_are g less (shards g less);
+      header = slots;
+    }
 
-  touched : (g a : ℕ) → g < length c.groups → Member a (group_at c g).arrays → is_touched c.arrays a ≡ true
-  touched = all_touched c code.valid l.spot (part_count l) low packed.ordered are.order_is are.ends_are of packed.layout.wide groups packed.layout.placed arrays_are
+    touched : (g a : ℕ) → g < length c.groups → Member a (group_at c g).arrays → is_touched c.arrays a ≡ true
+    touched = all_touched c code.valid l.spot (part_count l) low packed.ordered are.order_is are.ends_are of packed.layout.wide groups packed.layout.placed arrays_are
 
-  pub places : HasPlaces c
-  places = has_places c is_staged header touched shards
+    pub places : HasPlaces c
+    places = has_places c is_staged header touched shards
 
-  pub untouched : NoneTouched c
-  untouched = none_touched c is_staged header touched shards
+    pub untouched : NoneTouched c
+    untouched = none_touched c is_staged header touched shards
 
-  pub indexes : PlacesAreIndexes c
-  indexes = are_indexes c is_staged header touched shards code.words
+    pub indexes : PlacesAreIndexes c
+    indexes = are_indexes c is_staged header touched shards code.words
 
 -- what holds of code holds of a result that is this code
 pub if_it_is : {T E : Type 0} (P : T → Type 0) (r : Result T E) (t : T) → IfOk r (λ s. s ≡ t) → P t → IfOk r P

@@ -41,7 +41,7 @@ true_false : {A : Type 0} → true ≡ false → A
 true_false e = absurd cc
 
 -- a group is one of an array that has a place in the list
-within_of : (of : List (Option ℕ)) (a g : ℕ) → group_of of a ≡ Some g → a < length of
+pub within_of : (of : List (Option ℕ)) (a g : ℕ) → group_of of a ≡ Some g → a < length of
 within_of [] a g e = absurd cc
 within_of (o ∷ of) zero g e = omega arith
 within_of (o ∷ of) (suc a) g e = omega (arith, within_of of a g e)

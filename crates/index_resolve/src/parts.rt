@@ -1,5 +1,6 @@
 //! The one call of the pass.
 ghost use Rattle.std.specs.Prelude.{◌≡◌, ◌<◌, ◌+◌, ◌*◌, ◌^◌, IfOk, length};
+ghost use Rattle.code_forms.specs.Staged.{IsStaged};
 ghost use Rattle.code_forms.specs.StagedMeaning.{PlacesAreIndexes};
 ghost use Rattle.index_resolve.specs.Clean.{clean_slots};
 ghost use Rattle.index_resolve.specs.HeaderSteps.{header_steps};
@@ -19,10 +20,11 @@ use std::alloc::{AllocError, Global};
 /// Flat code in the parts of its layout, with what a header alone tells of it. A header has its place at a group where
 /// some array of it is touched under a guard that may be open; then the place of a sharded group is the unit that the
 /// Index of each of its arrays names, whatever stands in the cells. A header without a place at a group touches no
-/// array of it. It takes time in proportion to the code, times the parts.
+/// array of it. The code is valid. It takes time in proportion to the code, times the parts.
 pub fn resolve(alloc: Global, code: &FlatCode, layout: &Layout) -> Result<StagedCode, NoMemory>
     requires { IsPacked code.now layout.now }
     ensures parts { IfOk result (λ s. IsResolved code.now layout.now s) }
+    ensures staged { IfOk result (λ s. IsStaged s) }
     ensures places { IfOk result (λ s. HasPlaces s) }
     ensures untouched { IfOk result (λ s. NoneTouched s) }
     ensures indexes { IfOk result (λ s. PlacesAreIndexes s) }
