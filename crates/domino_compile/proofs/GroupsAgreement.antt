@@ -1,5 +1,5 @@
 -- Flat code agrees with its source: count, groups, units and places.
-use Rattle.std.proofs.Common.{◌≡◌, ℕ, zero, suc, ◌<◌, ℤ, List, [], ◌∷◌, length, replicate, get_or, Option, None, Some, refl, sym, ap, subst, ◌∙◌, arith}
+use Rattle.std.proofs.Common.{◌≡◌, ℕ, ℤ, List, [], length, replicate, Option, None, Some, refl, sym, ap, subst, ◌∙◌}
 use Rattle.std.specs.Prelude.{IsTrue}
 use Rattle.mp5_words.specs.Copies.{Copy, at}
 use Rattle.mp5_words.specs.Domain.{source_ops, sources}
@@ -12,6 +12,7 @@ use Rattle.code_forms.specs.declared.flat.Operand.{Operand}
 use Rattle.code_forms.specs.FlatMeaning.{flat_values, index_slot}
 use Rattle.dependence.specs.Groups.{group_of}
 use Rattle.ssa_flatten.proofs.FlatLines.{stood}
+use Rattle.index_resolve.proofs.StagedFacts.{within_of}
 use Rattle.domino_compile.specs.GroupsCode.{IsCodeOf}
 use Rattle.domino_compile.specs.GroupsAgree.{AreCodeGroups, CanShard, HasCodePlace, IsCodeUnit, Agrees}
 use Rattle.domino_compile.proofs.CountLemmas.{instrs_count}
@@ -24,17 +25,12 @@ use Rattle.domino_compile.proofs.PlacesLemmas.{reserved_is}
 use Rattle.domino_compile.proofs.PlacesUnits as places
 
 module _ (p : Program) (g : GuardCode) (f : FlatCode) (is : IsCodeOf p g f) (count : ℕ) (of : List (Option ℕ)) (groups : AreCodeGroups f count of) where
-  grouped : (l : List (Option ℕ)) (a k : ℕ) → get_or l a None ≡ Some k → a < length l
-  grouped [] a k e = absurd cc
-  grouped (x ∷ l) zero k e = omega arith
-  grouped (x ∷ l) (suc a) k e = omega (arith, grouped l a k e)
-
   -- an array of a group is touched
   known_in : (a k : ℕ) → group_of of a ≡ Some k → (c : Copy Operand) × (known p g f is a ≡ Some c)
   known_in a k e = by_copy (known p g f is a) refl where
     by_copy : (o : Option (Copy Operand)) → known p g f is a ≡ o → (c : Copy Operand) × (known p g f is a ≡ Some c)
     by_copy (Some c) same = (c, same)
-    by_copy None same = absurd (no_way (sym (groups.untouched a (grouped of a k e) (λ t. unknown (code.known_of p g f is a t))) ∙ e)) where
+    by_copy None same = absurd (no_way (sym (groups.untouched a (within_of of a k e) (λ t. unknown (code.known_of p g f is a t))) ∙ e)) where
       no_way : None ≡ Some k → ⊥
       no_way e = cc
 

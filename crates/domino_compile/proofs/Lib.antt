@@ -21,3 +21,10 @@ pub mod NeedsNodes
 pub mod NeedsLemmas
 pub mod GroupsLemmas
 pub mod GroupsAgreement
+pub mod ListedGroups
+pub mod ResolvedGroups
+pub mod MadeMeaning
+pub mod CompiledLemmas
+pub mod CheckDecides
+pub mod AcceptedLemmas
+pub mod MeaningRun

@@ -19,18 +19,18 @@ use Rattle.code_forms.specs.declared.flat.Instr.TheVariants as instr
 use Rattle.code_forms.specs.declared.flat.FlatArray.{FlatArray}
 use Rattle.code_forms.specs.declared.guard.ArrayShape.{ArrayShape}
 use Rattle.code_forms.specs.declared.guard.GuardCode.{GuardCode}
-use Rattle.code_forms.specs.declared.parts.StagedGroup.{StagedGroup}
 use Rattle.code_forms.specs.FlatValid.{is_some, is_touched}
 use Rattle.code_forms.specs.FlatMeaning.{operand_value, flat_values, flat_length, index_operand, steps_of}
 use Rattle.code_forms.specs.GuardMeaning.{Guarded, length_at, indexes_of, guard_lines, guard_start}
 use Rattle.code_forms.specs.Staged.{Staged, Member, group_at, group_of, guards_of, slot_of_index, operand_word, stored_operand, unit_count, first_array}
-use Rattle.code_forms.specs.StagedMeaning.{Units, is_open, is_touching, place, place_on, header_words, unit_number, is_place, placed_word, loaded_word, staged_loads, staged_values, code_values, last_words, cells_after, units_after}
+use Rattle.code_forms.specs.StagedMeaning.{Units, is_open, is_touching, place, header_words, is_place, placed_word, loaded_word, staged_loads, staged_values, code_values, last_words, cells_after, units_after}
 use Rattle.branch_removal.specs.Kept.{copy_of, IsKept, run_lines, untouched, LoadsRight}
 use Rattle.branch_removal.specs.Kept as kept_forms
 use Rattle.ssa_flatten.specs.Flattened.{EndsAs, under_of, store_operand}
 use Rattle.code_forms.proofs.ValidLemmas.{and_front, and_back}
 use Rattle.code_forms.proofs.OrderLemmas.{length_replicate, in_order}
 use Rattle.code_forms.proofs.StagedLemmas.{fitting, lives}
+use Rattle.code_forms.proofs.UnitLemmas.{cell_below, zero_place}
 use Rattle.branch_removal.proofs.ShapeLemmas.{shapes_long, length_same}
 use Rattle.domino_names.proofs.InfoLemmas.{length-infos}
 use Rattle.domino_compile.specs.MeaningKept.{in_unit, units_of, IsStagedOf, EndsAsSource, MeansSource}
@@ -38,7 +38,7 @@ use Rattle.domino_compile.proofs.FrameLemmas.{Same, Within, After, Frames, exec_
 use Rattle.domino_compile.proofs.UnitsLemmas.{distinct, flat_same}
 use Rattle.domino_compile.proofs.MeaningLoads.{same_run}
 use Rattle.domino_compile.proofs.MeaningCopies.{Stays, lines_stay}
-use Rattle.domino_compile.proofs.MeaningGroups.{group_has, array_there, group_touched, group_sized, index_value, cell_below, no_guards}
+use Rattle.domino_compile.proofs.MeaningGroups.{group_has, array_there, group_touched, group_sized, index_value, no_guards}
 use Rattle.domino_compile.proofs.MeaningRows.{zeros, row_long, kept_row, kept_rows, kept_at, kept_long, kept_counts, touched_any, any_mapped, guards_at, under_at, unit_word, unit_stores}
 
 -- ---- operands and places
@@ -71,13 +71,6 @@ is_none (Some u) = false
 abbrev place_in : Staged → List ℤ → Option ℕ → Option ℕ
 place_in c header None = None
 place_in c header (Some g) = place c header g
-
--- a group that isn't sharded has its place at unit 0
-zero_place : (c : Staged) (room : List ℤ) (g : StagedGroup) (u : ℕ) → g.sharded ≡ false → place_on c room g ≡ Some u → u ≡ 0
-zero_place c room g u whole placed = chosen (list_any (is_touching c room) g.arrays) placed ∙ ap (λ (b : Bool). if b then natural (word_at room (slot_of_index c (first_array g))) else 0) whole where
-  chosen : (b : Bool) → (if b then Some (unit_number c room g) else None) ≡ Some u → u ≡ unit_number c room g
-  chosen true e = cc
-  chosen false e = absurd (cc)
 
 -- ---- the whole
 

@@ -10,11 +10,13 @@ use Rattle.domino_check.specs.Place.{header_marks, marked_copy, is_open_at}
 use Rattle.code_forms.specs.declared.guard.GuardCode.{GuardCode}
 use Rattle.code_forms.specs.declared.flat.FlatCode.{FlatCode}
 use Rattle.code_forms.specs.declared.flat.Operand.{Operand}
-use Rattle.code_forms.specs.FlatMeaning.{operand_value, flat_values}
+use Rattle.code_forms.specs.declared.flat.Operand.TheVariants as operand
+use Rattle.code_forms.specs.FlatMeaning.{operand_value, flat_values, flat_length}
 use Rattle.ssa_flatten.specs.Flattened.{under_of}
 use Rattle.ssa_flatten.proofs.FlatLines.{stood}
+use Rattle.index_resolve.specs.HeaderRun.{operand_mark}
 use Rattle.domino_compile.specs.GroupsCode.{IsCodeOf}
-use Rattle.domino_compile.specs.PlacesCode.{mark_of, is_reserved}
+use Rattle.domino_compile.specs.PlacesCode.{code_marks, is_reserved}
 use Rattle.domino_compile.proofs.GroupsStand.{known, guards_are, lengths_are, copy_stands}
 
 any_stands : (value : Operand → Mark) (xs : List Operand) → list_any (λ (m : Mark). m.is_open) (map value xs) ≡ list_any (λ (x : Operand). (value x).is_open) xs
@@ -29,15 +31,25 @@ module _ (p : Program) (g : GuardCode) (f : FlatCode) (is : IsCodeOf p g f) (hea
   pub marks_long : length (header_marks header) ≡ length p.packet.fields
   marks_long = length-map header (mark []) ∙ long
 
+  -- the mark of an operand
+  abbrev mark_of : Operand → Mark
+  mark_of x = operand_mark (code_marks f header) x
+
+  -- it is the operand's value, over marks
+  mark_is : (x : Operand) → mark_of x ≡ operand_value Mark (marks (flat_length f.arrays)) (code_marks f header) x
+  mark_is (operand.Slot k) = refl
+  mark_is (operand.Number n) = refl
+
   -- what is known of an array in operands stands for what the header tells of it
-  pub marked_stands : (a : ℕ) → stood (mark_of f header) (known p g f is a) ≡ marked_copy p header a
+  pub marked_stands : (a : ℕ) → stood mark_of (known p g f is a) ≡ marked_copy p header a
   marked_stands a =
-      (λ i. stood (operand_value Mark (marks (lengths_are p g f is i)) (flat_values Mark (marks (lengths_are p g f is i)) f.fields f.arrays f.instrs (header_marks header))) (known p g f is a))
+      (λ i. stood (λ x. mark_is x i) (known p g f is a))
+      ∙ (λ i. stood (operand_value Mark (marks (lengths_are p g f is i)) (flat_values Mark (marks (lengths_are p g f is i)) f.fields f.arrays f.instrs (header_marks header))) (known p g f is a))
       ∙ copy_stands p g f is Mark (marks (cells_of p)) (header_marks header) marks_long a
 
   -- an array is reserved where a site that touches it is open
   pub reserved_is : (a : ℕ) → is_reserved f header a ≡ is_open_at (marked_copy p header a)
   reserved_is a =
-      ap (list_any (λ (x : Operand). (mark_of f header x).is_open)) (guards_are p g f is a)
-      ∙ open_stands (mark_of f header) (known p g f is a)
+      ap (list_any (λ (x : Operand). (mark_of x).is_open)) (guards_are p g f is a)
+      ∙ open_stands mark_of (known p g f is a)
       ∙ ap is_open_at (marked_stands a)

@@ -1,32 +1,29 @@
 -- What flat code keeps of its source: `Agrees` says it whole. Its groups, how many units each has, where a header has
 -- a place and in which unit, and how many instructions there are, are told by the source alone.
-use Rattle.std.specs.Prelude.{◌≡◌, ℕ, ℤ, ◌↔◌, List, [], length, replicate, IsTrue, Option, Some}
+use Rattle.std.specs.Prelude.{◌≡◌, ℕ, ℤ, ◌↔◌, List, length, IsTrue, Option, Some}
 use Rattle.mp5_words.specs.Cells.{natural}
 use Rattle.mp5_words.specs.Copies.{at}
-use Rattle.mp5_words.specs.Domain.{Mark, mark_ops, source_ops, sources}
+use Rattle.mp5_words.specs.Domain.{Mark, mark_ops}
 use Rattle.domino_tree.specs.declared.program.Program.{Program}
 use Rattle.domino_tree.specs.Count.{count_of}
 use Rattle.domino_check.specs.Place.{HasPlace, IsUnit}
 use Rattle.domino_check.specs.SourceGroups.{AreSourceGroups, IsSharded, cells_of}
 use Rattle.code_forms.specs.declared.flat.FlatCode.{FlatCode}
-use Rattle.code_forms.specs.FlatMeaning.{flat_values, flat_length, index_slot}
+use Rattle.code_forms.specs.FlatMeaning.{flat_length, index_slot}
 use Rattle.code_forms.specs.SameIndexes.{same_of}
 use Rattle.dependence.specs.Groups.{AreGroups, group_of}
 use Rattle.flat_graph.specs.Layouts.{IsTouched, ArrayReaches}
 use Rattle.flat_graph.specs.Nodes.{nodes}
+use Rattle.index_resolve.specs.Clean.{IsClean}
 use Rattle.domino_compile.specs.PlacesCode.{code_marks, is_reserved}
 
 -- the groups of flat code, by which of its arrays reach which
 abbrev pub AreCodeGroups : FlatCode → ℕ → List (Option ℕ) → Type 0
 AreCodeGroups f count of = AreGroups (IsTouched (nodes f)) (ArrayReaches (nodes f)) count of
 
--- the arrays behind the values of all slots; none behind those of a header
-abbrev pub code_sources : FlatCode → List (List ℕ)
-code_sources f = flat_values (List ℕ) sources f.fields f.arrays f.instrs (replicate f.fields [])
-
 -- a group can be sharded: no array stands behind the Index of its arrays, and these have one `same` and one length
 pub record CanShard (f : FlatCode) (of : List (Option ℕ)) (g : ℕ) : Type 0 where
-  pub clean : (a : ℕ) → group_of of a ≡ Some g → at (List ℕ) source_ops (code_sources f) (index_slot f.instrs f.fields a) ≡ []
+  pub clean : (a : ℕ) → group_of of a ≡ Some g → IsClean f.fields f.arrays f.instrs (index_slot f.instrs f.fields a)
   pub same : (a b : ℕ) → group_of of a ≡ Some g → group_of of b ≡ Some g → same_of f.arrays a ≡ same_of f.arrays b
   pub even : (a b : ℕ) → group_of of a ≡ Some g → group_of of b ≡ Some g → flat_length f.arrays a ≡ flat_length f.arrays b
 

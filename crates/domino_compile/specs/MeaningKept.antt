@@ -13,10 +13,11 @@ use Rattle.code_forms.specs.declared.guard.GuardCode.{GuardCode}
 use Rattle.code_forms.specs.declared.parts.StagedGroup.{StagedGroup}
 use Rattle.code_forms.specs.FlatValid.{is_touched}
 use Rattle.code_forms.specs.Staged.{Staged, Member, group_at, group_of, unit_count, IsStaged}
-use Rattle.code_forms.specs.StagedMeaning.{Units, is_touching, place, code_values, staged_values, last_words, units_after, PlacesAreIndexes}
+use Rattle.code_forms.specs.StagedMeaning.{Units, is_touching, place, staged_values, last_words, units_after, PlacesAreIndexes}
 use Rattle.branch_removal.specs.Kept.{KeepsMeaning, untouched}
 use Rattle.branch_removal.specs.Shapes.{shapes_of}
 use Rattle.ssa_flatten.specs.Flattened.{AreArraysFor, MeansLines}
+use Rattle.index_resolve.specs.Places.{NoneTouched}
 
 -- the cells of an array that stand in such a unit: where its group is sharded the one of that number, else all
 abbrev pub in_unit : StagedGroup → ℕ → List ℤ → List ℤ
@@ -25,11 +26,6 @@ in_unit group u row = if group.sharded then word_at row u ∷ [] else row
 -- the units that the cells of all arrays make: in each, one after another, those of each array of its group
 abbrev pub units_of : Staged → List (List ℤ) → Units
 units_of c cells g u = flat_map (λ a. in_unit (group_at c g) u (cells_at cells a)) (group_at c g).arrays
-
--- whatever is loaded, a header without a place at a group touches no array of it
-abbrev pub NoneTouched : Staged → Type 0
-NoneTouched c = (loads : Loads) (header : List ℤ) → length header ≡ c.fields → (g a : ℕ) → g < length c.groups
-    → place c header g ≡ None → Member a (group_at c g).arrays → is_touching c (code_values c loads header) a ≡ false
 
 -- the code is staged code of a program's guarded code: what each pass keeps, each touched array is in a group, and its
 -- places are as they should be

@@ -1,0 +1,35 @@
+-- What staged code does on headers, one after another, and that it is what the source does on them.
+use Rattle.std.specs.Prelude.{◌≡◌, ℕ, ◌<◌, ℤ, Bool, false, List, [], length, take, All}
+use Rattle.std.specs.List.{fold, slice_index_or}
+use Rattle.domino_tree.specs.declared.program.Program.{Program}
+use Rattle.domino_tree.specs.Sequential.{one}
+use Rattle.code_forms.specs.Staged.{Staged, group_at, unit_count}
+use Rattle.code_forms.specs.StagedMeaning.{Units, is_touching, start_cells, staged_values, last_words, units_after}
+use Rattle.domino_compile.specs.MeaningKept.{units_of}
+
+-- the units at the start
+abbrev pub start_units : Staged → Units
+start_units c g u = start_cells c (group_at c g)
+
+-- the units after headers, one after another
+abbrev pub units_over : Staged → Units → List (List ℤ) → Units
+units_over c units headers = fold (units_after c) units headers
+
+-- the header of an arrival
+abbrev pub header_at : List (List ℤ) → ℕ → List ℤ
+header_at headers t = slice_index_or headers t []
+
+-- the values of all slots of an arrival, over the units that those before it leave
+abbrev pub values_at : Staged → Units → List (List ℤ) → ℕ → List ℤ
+values_at c units headers t = staged_values c (units_over c units (take t headers)) (header_at headers t)
+
+-- each header has a word for each field
+abbrev pub AreWide : Staged → List (List ℤ) → Type 0
+AreWide c headers = All (λ header. length header ≡ c.fields) headers
+
+-- on these headers the code ends with the packets and the cells of the sequential run, and each arrival touches the same
+-- arrays
+pub record RunsAsSource (p : Program) (c : Staged) (headers : List (List ℤ)) : Type 0 where
+  pub packets : (t : ℕ) → t < length headers → last_words c (values_at c (start_units c) headers t) ≡ slice_index_or (one p headers).packets t []
+  pub touched : (t a : ℕ) → t < length headers → is_touching c (values_at c (start_units c) headers t) a ≡ slice_index_or (slice_index_or (one p headers).touched t []) a false
+  pub units : (g u : ℕ) → g < length c.groups → u < unit_count c (group_at c g) → units_over c (start_units c) headers g u ≡ units_of c (one p headers).cells g u
