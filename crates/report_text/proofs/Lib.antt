@@ -2,3 +2,4 @@ mod LabelLemmas
 mod LineLemmas
 mod PlanLemmas
 mod TextLemmas
+pub mod CountLemmas

@@ -77,7 +77,7 @@ group-line-found p k g text at h is =
     (back-line (lines_of (text_of p.program)) (code_line p.code ∷ groups) (suc g) text (record { there = omega (arith, own.there); same = own.same })))
 
 -- how many lines stand before those of the places
-head-long : (p : Planned) → length (head_lines p.program p.code) ≡ length (lines_of (text_of p.program)) + (length p.code.groups + 1)
+pub head-long : (p : Planned) → length (head_lines p.program p.code) ≡ length (lines_of (text_of p.program)) + (length p.code.groups + 1)
 head-long p =
     let n = length p.code.groups in
     length-append (lines_of (text_of p.program)) (code_line p.code ∷ group_lines (infos_of p.program) p.code n)

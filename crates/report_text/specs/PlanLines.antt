@@ -1,5 +1,6 @@
 -- The lines of the text that tells of a program's code: its canonical text, its groups, and the places of each header.
 use Rattle.std.specs.Prelude.{ℕ, zero, suc, ◌+◌, ◌^◌, ◌/◌, ◌%◌, ◌==◌, ℤ, Bool, if◌then◌else◌, List, [], ◌∷◌, ◌++◌, length, codes, decimal, Option, Some, None}
+use Rattle.std.specs.List.{flat_map}
 use Rattle.domino_tree.specs.declared.program.Program.{Program}
 use Rattle.domino_tree.specs.Text.{text_of}
 use Rattle.domino_names.specs.declared.infos.ArrayInfo.{ArrayInfo}
@@ -80,3 +81,7 @@ head_lines p c = lines_of (text_of p) ++ (code_line c ∷ group_lines (infos_of 
 -- the lines of the whole text
 abbrev pub plan_lines : Program → Staged → List (List ℤ) → List (List ℕ)
 plan_lines p c headers = head_lines p c ++ (arrival_lines c 0 headers ++ (done_line (length headers) ∷ []))
+
+-- the lines one after another
+abbrev pub plan_text : Program → Staged → List (List ℤ) → List ℕ
+plan_text p c headers = flat_map (λ line. line) (plan_lines p c headers)

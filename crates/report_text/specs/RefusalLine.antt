@@ -1,13 +1,16 @@
--- The lines that tell of a program that a check refuses and of a refused capture: the refusal's number and the values
--- that it keeps.
+-- The lines that tell of a refused program and of a refused capture: the refusal's number and the values that it keeps.
 use Rattle.std.specs.Prelude.{ℕ, ◌+◌, ◌^◌, ◌/◌, ◌%◌, nat_lt, if◌then◌else◌, List, [], ◌∷◌, ◌++◌, map, codes, decimal}
 use Rattle.std.specs.Fmt.{signed_decimal}
 use Rattle.capture_io.specs.declared.fault.CaptureFault.{CaptureFault}
 use Rattle.capture_io.specs.declared.fault.CaptureFault.TheVariants.{TooLong, ShortHeader, PcapNg, BadMagic, Version, LinkType, LongRecord, Truncated, TooMany, NoMemory}
+use Rattle.domino_syntax.specs.declared.fault.TextFault.{TextFault}
+use Rattle.domino_syntax.specs.declared.fault.TextFault.TheVariants as text_fault
 use Rattle.domino_names.specs.declared.fault.What.{What}
 use Rattle.domino_names.specs.declared.fault.What.TheVariants as what
 use Rattle.domino_names.specs.declared.fault.CheckFault.{CheckFault}
 use Rattle.domino_names.specs.declared.fault.CheckFault.TheVariants as check
+use Rattle.domino_compile.specs.declared.fault.ProgramFault.{ProgramFault}
+use Rattle.domino_compile.specs.declared.fault.ProgramFault.TheVariants as program
 
 -- a hexadecimal digit, with `a` to `f` in lower case
 abbrev pub hex_digit : ℕ → ℕ
@@ -40,6 +43,14 @@ what_word what.Cells = codes "cells"
 abbrev pub with_pair : List ℕ → List ℕ → List ℕ → List ℕ
 with_pair text word digits = text ++ (word ++ (32 ∷ (digits ++ (10 ∷ []))))
 
+-- the line of a text that isn't read; want of memory has that of its own status
+abbrev pub text_line : TextFault → List ℕ
+text_line (text_fault.TooLong n) = with_one (codes "mp5: program 1 ") n
+text_line (text_fault.BadToken at) = with_one (codes "mp5: program 2 ") at
+text_line (text_fault.TooDeep n) = with_one (codes "mp5: program 4 ") n
+text_line (text_fault.Syntax n) = with_one (codes "mp5: program 3 ") n
+text_line text_fault.NoMemory = codes "mp5: no memory\n"
+
 -- the line of a program that a check refuses
 abbrev pub check_line : CheckFault → List ℕ
 check_line (check.Twice name) = with_name (codes "mp5: program 5 ") name
@@ -51,6 +62,13 @@ check_line (check.TooMany w n) = with_pair (codes "mp5: program 10 ") (what_word
 check_line (check.IndexDiffers name) = with_name (codes "mp5: program 11 ") name
 check_line (check.IndexMoves name) = with_name (codes "mp5: program 12 ") name
 check_line check.NoMemory = codes "mp5: no memory\n"
+
+-- the line of a refused program
+abbrev pub program_line : ProgramFault → List ℕ
+program_line (program.Text f) = text_line f
+program_line (program.Check f) = check_line f
+program_line (program.TooLarge n) = with_one (codes "mp5: program 13 ") n
+program_line program.NoMemory = codes "mp5: no memory\n"
 
 -- the line of a refused capture
 abbrev pub refusal_line : CaptureFault → List ℕ

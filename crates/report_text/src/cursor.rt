@@ -1,6 +1,7 @@
 //! The lines of the places, read from where the last one stood.
 ghost use Rattle.std.specs.Prelude.{◌≡◌, ◌≤◌, ◌<◌, ◌+◌, ℕ, [], length, slice_index, IfOk, IfSome, None};
 ghost use Rattle.std.specs.Bool.{OnTrue, OnFalse};
+ghost use Rattle.capture_io.specs.declared.limits.TheConstants.{MAX_RECORDS};
 ghost use Rattle.code_forms.specs.Staged.{slot_count};
 ghost use Rattle.report_text.specs.PlanReading.{AreHeaders, ArePlacesOf, IsLine, IsBehind, numbers_lines, lines_before, later_lines};
 
@@ -68,6 +69,14 @@ impl<'a> Cursor<'a> {
             places,
             room,
         })
+    }
+
+    /// How many headers there are.
+    pub(crate) fn count(&self) -> u32
+        ensures count { result ≡ length self.now.headers }
+        ensures limit { result ≤ MAX_RECORDS }
+    {
+        self.capture.count()
     }
 
     /// Puts line `k` of the places' lines and the last line, if there is one.

@@ -72,6 +72,17 @@ impl<'a> PlanText<'a> {
         })
     }
 
+    /// A number of lines that the text has at most: each header has at most one place at each group. Takes no memory.
+    pub fn most_lines(&self) -> u64
+        ensures { length (lines_in self.now) ≤ result }
+    {
+        let head = self.canonical.len() as u64;
+        let groups = u64::from(self.code.groups());
+        let headers = u64::from(self.cursor.count());
+        let places = groups * headers;
+        head + groups + places + 2
+    }
+
     /// Writes line `k` of the text, and says whether there is one. Where there is none the line is empty. Takes no memory.
     pub fn line(&mut self, k: u64, into: &mut Line) -> bool
         requires { room_of self.old.program ≤ into.old.room }

@@ -1,7 +1,7 @@
 //! How calls end: words that aren't taken, and reads and writes that fail.
 use crate::fixture::{
-    COUNT, COUNTED, FILE_HEADER, assert_ended, assert_refused, call, file, packets, sink, store_of,
-    text_of, words_of,
+    COUNT, COUNTED, FILE_HEADER, PLANNED, assert_ended, assert_refused, call, file, packets, sink,
+    store_of, text_of, words_of,
 };
 use std::alloc::{AllocError, Global};
 use std::test::Fail;
@@ -24,7 +24,7 @@ fn words(rt: HostRuntime) -> Result<(), Fail> {
         ),
         (
             2,
-            "mp5 two p c|mp5 One p c|mp5 ONE p c|mp5 on p c|mp5 ones p c|mp5  p c|mp5 -one p c|mp5 run p c|one mp5 p c",
+            "mp5 two p c|mp5 One p c|mp5 ONE p c|mp5 on p c|mp5 ones p c|mp5 PLAN p c|mp5  p c|mp5 -one p c|mp5 run p c|one mp5 p c",
         ),
         (
             2,
@@ -36,7 +36,7 @@ fn words(rt: HostRuntime) -> Result<(), Fail> {
         ),
         (
             5,
-            "mp5 one p c|-x one p c| one p c|mp5 one c p|mp5 one p p|mp5 one p q|mp5 one p gen|mp5 one p Gen:1:1|mp5 one p |mp5 one p -|mp5 -- one p c",
+            "mp5 one p c|mp5 plan p c|-x one p c| one p c|mp5 one c p|mp5 one p p|mp5 one p q|mp5 one p gen|mp5 one p Gen:1:1|mp5 one p |mp5 one p -|mp5 -- one p c",
         ),
     ] {
         for line in lines.split('|') {
@@ -182,10 +182,12 @@ fn writes_that_fail(rt: HostRuntime) -> Result<(), Fail> {
 fn one_byte_at_a_time(rt: HostRuntime) -> Result<(), Fail> {
     let alloc = rt.alloc();
     let capture = packets(alloc, &[10, 20, 30])?;
-    let mut store = store_of(alloc, COUNT.as_bytes(), &capture, 1, &[])?;
-    let (out, err) = (sink(alloc, 1, &[])?, sink(alloc, 1, &[])?);
-    let ended = call(alloc, "mp5 one p c", &mut store, out, err)?;
-    assert_ended(&rt, &ended, 0, COUNTED, "one byte at a time");
+    for (line, printed) in [("mp5 one p c", COUNTED), ("mp5 plan p c", PLANNED)] {
+        let mut store = store_of(alloc, COUNT.as_bytes(), &capture, 1, &[])?;
+        let (out, err) = (sink(alloc, 1, &[])?, sink(alloc, 1, &[])?);
+        let ended = call(alloc, line, &mut store, out, err)?;
+        assert_ended(&rt, &ended, 0, printed, line);
+    }
     Ok(())
 }
 

@@ -15,6 +15,19 @@ pub(crate) const COUNT: &str =
 pub(crate) const COUNTED: &str =
     "pkt 0 sport=10 n=1\npkt 1 sport=20 n=2\npkt 2 sport=30 n=3\nreg c=3\ndone 3\n";
 
+/// The text of the code of `COUNT`, with the places of three packets.
+pub(crate) const PLANNED: &str = "\
+struct Packet { int sport ; int n ; } ;
+int c ;
+void count ( struct Packet p ) { c = c + 1 ; p . n = c ; }
+code 6 3 1
+group 0 depth 1 units 1 : c
+place 0 0 0
+place 1 0 0
+place 2 0 0
+done 3
+";
+
 /// The file header of a capture of Ethernet frames.
 pub(crate) const FILE_HEADER: [u8; 24] = [
     0xd4, 0xc3, 0xb2, 0xa1, 2, 0, 4, 0, 0, 0, 0, 0, 0, 0, 0, 0, 0, 0, 4, 0, 1, 0, 0, 0,

@@ -1,26 +1,22 @@
 -- The causes of an answer, from those of each step.
-use Rattle.std.proofs.Common.{◌≡◌, ◌≢◌, ◌≤◌, ◌+◌, ◌-◌, ◌^◌, ◌∙◌, inl, inr, ℕ, List, take, Option, Some, Ok, refl, sym, ap, subst, arith, min}
+use Rattle.std.proofs.Common.{◌≡◌, ◌≢◌, ◌≤◌, ◌+◌, ◌-◌, ◌^◌, ◌∙◌, inl, inr, ℕ, List, take, Option, Some, refl, sym, ap, subst, arith, min}
 use Rattle.std.specs.Prelude.{IfSome}
 use Rattle.capture_io.specs.declared.fault.CaptureFault.{CaptureFault}
 use Rattle.capture_io.specs.ClassicCapture.{Record, IsCapture}
 use Rattle.capture_io.specs.Header.{headers}
 use Rattle.capture_io.proofs.WholeCapture.{one_answer, one_refusal}
 use Rattle.domino_tree.specs.declared.program.Program.{Program}
-use Rattle.domino_syntax.specs.declared.fault.TextFault.{TextFault}
-use Rattle.domino_syntax.specs.ProgramText.{IsProgramText, Refuses as RefusesText}
-use Rattle.domino_syntax.proofs.Texts.{accepts, refuses, one_refusal as one_text_refusal}
-use Rattle.switch_runner.specs.declared.status.ProgramFault.{ProgramFault}
-use Rattle.switch_runner.specs.declared.status.ProgramFault.TheVariants as program
+use Rattle.domino_compile.specs.declared.fault.ProgramFault.{ProgramFault}
+use Rattle.domino_compile.specs.Accepted.{IsAccepted}
+use Rattle.domino_compile.proofs.AcceptedLemmas.{accepted_or_not, one_fault}
 use Rattle.switch_runner.specs.declared.status.Status.{Status}
 use Rattle.switch_runner.specs.declared.status.Status.TheVariants as status
 use Rattle.switch_runner.specs.CommandLine.{Request}
-use Rattle.switch_runner.specs.Causes.{Cause, Gained, RoseFor, IsRunnable, IsAccepted, IsProgram, IsUnaccepted, IsNoProgram, IsSomeCapture, IsNoCapture, IsAboutProgram, IsOrNoMemory, IsReadThrough, OfReport, report_of}
+use Rattle.switch_runner.specs.Causes.{Cause, Gained, RoseFor, IsRunnable, IsProgram, IsNoProgram, IsSomeCapture, IsNoCapture, IsAboutProgram, IsOrNoMemory, IsReadThrough, IsTextOf, Prints, OfText}
 use Rattle.switch_runner.specs.Outside.{StoreView, SinkView, ChangesOnly, IsKept, TookFront, gained}
-use Rattle.domino_check.specs.Refused.{Passes, Refused}
-use Rattle.domino_check.proofs.RefusedLemmas.{not_refused, one_refusal as one_refusal_of_checks}
-use Rattle.switch_runner.specs.Top.{NoSource, NoHeaders, Ends, Serves}
+use Rattle.switch_runner.specs.Top.{NoSource, NoHeaders, Ends, RunEnds, Serves}
 use Rattle.switch_runner.proofs.MemoryLemmas.{same_or_not}
-use Rattle.switch_runner.proofs.TopLemmas.{if_told, told_read, capture_read}
+use Rattle.switch_runner.proofs.TopLemmas.{if_told, accepted_read, capture_read}
 
 -- what follows of all that is told of a name holds of what is told
 told_as : (told : Option (List ℕ)) (bytes : List ℕ) (P : List ℕ → Type 0) → told ≡ Some bytes → IfSome told P → P bytes
@@ -123,7 +119,7 @@ serves_no_headers s r p old mid new out first second accepted h =
       };
     }
 
--- ---- both were read, and the transaction was run
+-- ---- both were read, and what the mode says was done
 
 runnable : (r : Request) (store : StoreView) (p : Program) (records : List Record) → IfSome (store.told r.program) (λ text. IsAccepted text p) → IfSome (store.told r.capture) (λ bytes. IsCapture bytes records) → IsRunnable r store
 runnable r store p records accepted captured = record {
@@ -131,15 +127,13 @@ runnable r store p records accepted captured = record {
   capture = if_told (store.told r.capture) (λ bytes. IsCapture bytes records) IsSomeCapture (λ bytes c. (records, c)) captured;
 }
 
--- the report of what was read
-of_report : (r : Request) (store : StoreView) (p : Program) (records : List Record) (P : List ℕ → Type 0) → IfSome (store.told r.program) (λ text. IsAccepted text p) → IfSome (store.told r.capture) (λ bytes. IsCapture bytes records)
-    → P (report_of r.mode p (headers p.packet.fields records)) → OfReport r store P
-of_report r store p records P accepted captured h =
-    if_told (store.told r.program) (λ text. IsAccepted text p)
-    (λ text. IfSome (store.told r.capture) (λ bytes. (q : Program) × (rs : List Record) × IsAccepted text q × IsCapture bytes rs × P (report_of r.mode q (headers q.packet.fields rs))))
-    (λ text a. if_told (store.told r.capture) (λ bytes. IsCapture bytes records)
-    (λ bytes. (q : Program) × (rs : List Record) × IsAccepted text q × IsCapture bytes rs × P (report_of r.mode q (headers q.packet.fields rs)))
-    (λ bytes c. (p, records, a, c, h)) captured)
+-- what is printed of what was read
+of_text : (r : Request) (store : StoreView) (p : Program) (records : List Record) (printed : List ℕ) (P : List ℕ → Type 0) → IfSome (store.told r.program) (λ text. IsAccepted text p)
+    → IfSome (store.told r.capture) (λ bytes. IsCapture bytes records) → IsTextOf r.mode p (headers p.packet.fields records) printed → P printed → OfText r store P
+of_text r store p records printed P accepted captured is h =
+    if_told (store.told r.program) (λ text. IsAccepted text p) (λ text. IfSome (store.told r.capture) (λ bytes. (out : List ℕ) × Prints r.mode text bytes out × P out))
+    (λ text a. if_told (store.told r.capture) (λ bytes. IsCapture bytes records) (λ bytes. (out : List ℕ) × Prints r.mode text bytes out × P out)
+    (λ bytes c. (printed, record { program = p; records = records; accepted = a; captured = c; is = is }, h)) captured)
     accepted
 
 cause_ran : (s : Status) (r : Request) (text : List ℕ) (old new : StoreView) (before after : SinkView) → IsRunnable r old → Ends text before after s → Cause s r old new
@@ -148,12 +142,12 @@ cause_ran status.WriteFault r text old new before after runs h = runs
 cause_ran status.NoMemory r text old new before after runs h = tt
 cause_ran s r text old new before after runs h = absurd h
 
-gained_ran : (s : Status) (r : Request) (p : Program) (records : List Record) (store : StoreView) (before after : SinkView) → IfSome (store.told r.program) (λ text. IsAccepted text p) → IfSome (store.told r.capture) (λ bytes. IsCapture bytes records)
-    → Ends (report_of r.mode p (headers p.packet.fields records)) before after s → Gained s r store before after
-gained_ran status.Done r p records store before after a c h = of_report r store p records (λ text. after.taken ≡ gained text before.taken) a c h.taken
-gained_ran status.WriteFault r p records store before after a c h = (h.rose, of_report r store p records (TookFront before.taken after.taken) a c h.front)
-gained_ran status.NoMemory r p records store before after a c h = h
-gained_ran s r p records store before after a c h = absurd h
+gained_ran : (s : Status) (r : Request) (p : Program) (records : List Record) (printed : List ℕ) (store : StoreView) (before after : SinkView) → IfSome (store.told r.program) (λ text. IsAccepted text p)
+    → IfSome (store.told r.capture) (λ bytes. IsCapture bytes records) → IsTextOf r.mode p (headers p.packet.fields records) printed → Ends printed before after s → Gained s r store before after
+gained_ran status.Done r p records printed store before after a c is h = of_text r store p records printed (λ text. after.taken ≡ gained text before.taken) a c is h.taken
+gained_ran status.WriteFault r p records printed store before after a c is h = (h.rose, of_text r store p records printed (TookFront before.taken after.taken) a c is h.front)
+gained_ran status.NoMemory r p records printed store before after a c is h = h
+gained_ran s r p records printed store before after a c is h = absurd h
 
 later_ran : (s : Status) (text : List ℕ) (before after : SinkView) → Ends text before after s → before.faults ≤ after.faults
 later_ran status.Done text before after h = h.later
@@ -167,13 +161,12 @@ not_program_ran s text before after h a = a
 
 pub serves_run : (s : Status) (r : Request) (p : Program) (records : List Record) (old mid new : StoreView) (before after : SinkView) → ChangesOnly r.program old mid → ChangesOnly r.capture mid new
     → IfSome (old.told r.program) (λ text. IsAccepted text p) → IfSome (mid.told r.capture) (λ bytes. IsCapture bytes records)
-    → Ends (report_of r.mode p (headers p.packet.fields records)) before after s → Serves r old new before after s
-serves_run s r p records old mid new before after first second accepted captured h =
-    let text : List ℕ = report_of r.mode p (headers p.packet.fields records) in
+    → RunEnds r.mode p (headers p.packet.fields records) before after s → Serves r old new before after s
+serves_run s r p records old mid new before after first second accepted captured (text, is, h) =
     let told : IfSome (old.told r.capture) (λ bytes. IsCapture bytes records) = told_later (old.told r.capture) (mid.told r.capture) (λ bytes. IsCapture bytes records) (first.told r.capture) captured in
     record {
       cause = cause_ran s r text old new before after (runnable r old p records accepted told) h;
-      outputs = record { later = later_ran s text before after h; text = gained_ran s r p records old before after accepted told h };
+      outputs = record { later = later_ran s text before after h; text = gained_ran s r p records text old before after accepted told is h };
       kept = kept_twice r.program r.capture old mid new first second;
       others = others_twice r.program r.capture old mid new first second;
       stops = record {
@@ -188,33 +181,11 @@ serves_run s r p records old mid new before after first second accepted captured
 not_both : (bytes : List ℕ) (f : CaptureFault) → IsSomeCapture bytes → IsNoCapture f bytes → ⊥
 not_both bytes f c none = one_answer (take 134217729 bytes) c.0 f (capture_read (take 134217729 bytes) bytes c.0 refl c.1) none
 
--- a text is read to one program
-one_program : (text : List ℕ) (p q : Program) → IsProgramText text p → IsProgramText text q → p ≡ q
-one_program text p q a b = accepts text (Ok p) (a, tt) q b
-
-read_or_refused : (text : List ℕ) (p : Program) (f : TextFault) → IsProgramText text p → RefusesText text f → ⊥
-read_or_refused text p f a r = refuses text (Ok p) (a, tt) f r
-
--- a text isn't both accepted and not
-accepted_or_not : (text : List ℕ) (p : Program) (f : ProgramFault) → IsProgramText text p → Passes p → IsUnaccepted f text → ⊥
-accepted_or_not text p (program.Text f) a passes fault = read_or_refused text p f a fault
-accepted_or_not text p (program.Check f) a passes fault = not_refused p f passes (subst (λ (q : Program). Refused q f) (one_program text fault.0 p fault.1 a) fault.2)
-accepted_or_not text p program.NoMemory a passes fault = fault
-
--- a text isn't accepted for one thing
-one_fault : (text : List ℕ) (f g : ProgramFault) → IsUnaccepted f text → IsUnaccepted g text → f ≡ g
-one_fault text (program.Text f) (program.Text g) a b = ap program.Text (one_text_refusal text f g a b)
-one_fault text (program.Text f) (program.Check g) a b = absurd (read_or_refused text b.0 f b.1 a)
-one_fault text (program.Check f) (program.Text g) a b = absurd (read_or_refused text a.0 g a.1 b)
-one_fault text (program.Check f) (program.Check g) a b =
-    ap program.Check (one_refusal_of_checks b.0 f g (subst (λ (q : Program). Refused q f) (one_program text a.0 b.0 a.1 b.1) a.2) b.2)
-one_fault text program.NoMemory g a b = absurd a
-one_fault text f program.NoMemory a b = absurd b
-
-told_or_not : (text : List ℕ) (f : ProgramFault) → IsProgram text → IsNoProgram f text → ⊥
-told_or_not text f a fault = accepted_or_not (take 65537 text) a.0 f (told_read (take 65537 text) text a.0 refl a.1.read) a.1.passes fault
-
 -- a told text isn't both a program and none
+told_or_not : (text : List ℕ) (f : ProgramFault) → IsProgram text → IsNoProgram f text → ⊥
+told_or_not text f a fault = accepted_or_not (take 65537 text) a.0 f (accepted_read (take 65537 text) text a.0 refl a.1) fault
+
+-- the same of what a name is told to be
 not_program : (told : Option (List ℕ)) (text : List ℕ) (f : ProgramFault) → told ≡ Some text → IsNoProgram f text → IfSome told IsProgram → ⊥
 not_program told text f e none h = told_or_not text f (told_as told text IsProgram e h) none
 

@@ -2,7 +2,7 @@
 use Rattle.std.proofs.Common.{◌≡◌, ◌≢◌, inr, ℕ, List, Some, refl, arith}
 use Rattle.std.specs.Prelude.{String}
 use Rattle.capture_io.specs.declared.fault.CaptureFault.{CaptureFault}
-use Rattle.switch_runner.specs.declared.status.ProgramFault.{ProgramFault}
+use Rattle.domino_compile.specs.declared.fault.ProgramFault.{ProgramFault}
 use Rattle.switch_runner.specs.declared.status.Status.{Status}
 use Rattle.switch_runner.specs.declared.status.Status.TheVariants as status
 use Rattle.switch_runner.specs.Outside.{StoreView, SinkView, ChangesOnly}

@@ -10,3 +10,4 @@ pub mod OneFault
 pub mod CommandLemmas
 pub mod LawLemmas
 pub mod FaultLemmas
+pub mod PlanLemmas

@@ -14,7 +14,7 @@ use Rattle.domino_names.specs.declared.infos.ArrayInfo.{ArrayInfo}
 use Rattle.domino_names.specs.Infos.{infos_of, array_of}
 use Rattle.domino_names.proofs.InfoLemmas.{infos_are}
 use Rattle.domino_tree.specs.Value.{Array, names_of, cell_counts}
-use Rattle.switch_runner.specs.Causes.{IsAccepted}
+use Rattle.domino_compile.specs.Accepted.{IsAccepted}
 use Rattle.report_text.specs.Report.{label, AreDeclared, HasCells, run_text, report}
 use Rattle.switch_runner.proofs.Lengths.{one-packets, one-cells}
 use Rattle.domino_syntax.specs.ProgramText.{IsProgramText}
@@ -105,14 +105,17 @@ whole limit bytes h = take_all (limit + 1) bytes (omega (arith, length-take (lim
 all_read : (limit : ℕ) (bytes : List ℕ) → length bytes ≤ limit → take (limit + 1) bytes ≡ bytes
 all_read limit bytes h = take_all (limit + 1) bytes (omega arith)
 
-pub read_told : (read told : List ℕ) (p : Program) → read ≡ take 65537 told → IsProgramText read p → IsProgramText told p
+read_told : (read told : List ℕ) (p : Program) → read ≡ take 65537 told → IsProgramText read p → IsProgramText told p
 read_told read told p e a = subst (λ (l : List ℕ). IsProgramText l p) (e ∙ whole 65536 told (subst (λ (l : List ℕ). length l ≤ 65536) e a.cuts.short)) a
 
-pub told_read : (read told : List ℕ) (p : Program) → read ≡ take 65537 told → IsProgramText told p → IsProgramText read p
+told_read : (read told : List ℕ) (p : Program) → read ≡ take 65537 told → IsProgramText told p → IsProgramText read p
 told_read read told p e a = subst (λ (l : List ℕ). IsProgramText l p) (sym (e ∙ all_read 65536 told a.cuts.short)) a
 
 pub accepted_told : (read told : List ℕ) (p : Program) → read ≡ take 65537 told → IsAccepted read p → IsAccepted told p
-accepted_told read told p e a = record { read = read_told read told p e a.read; passes = a.passes }
+accepted_told read told p e a = record { read = read_told read told p e a.read; passes = a.passes; small = a.small }
+
+pub accepted_read : (read told : List ℕ) (p : Program) → read ≡ take 65537 told → IsAccepted told p → IsAccepted read p
+accepted_read read told p e a = record { read = told_read read told p e a.read; passes = a.passes; small = a.small }
 
 pub capture_told : (read told : List ℕ) (records : List Record) → read ≡ take 134217729 told → IsCapture read records → IsCapture told records
 capture_told read told records e a = subst (λ (l : List ℕ). IsCapture l records) (e ∙ whole 134217728 told (subst (λ (l : List ℕ). length l ≤ 134217728) e a.size)) a

@@ -6,32 +6,26 @@ use Rattle.capture_io.specs.ClassicCapture.{Record, IsCapture}
 use Rattle.capture_io.specs.Header.{headers}
 use Rattle.capture_io.specs.Refusal.{Refuses}
 use Rattle.domino_tree.specs.declared.program.Program.{Program}
-use Rattle.domino_syntax.specs.declared.fault.TextFault.{TextFault}
 use Rattle.domino_syntax.specs.declared.fault.TextFault.TheVariants as text_fault
-use Rattle.domino_syntax.specs.ProgramText.{IsProgramText, Refuses as RefusesText}
-use Rattle.domino_names.specs.declared.fault.CheckFault.{CheckFault}
 use Rattle.domino_names.specs.declared.fault.CheckFault.TheVariants as check_fault
-use Rattle.domino_check.specs.Refused.{Passes, Refused}
 use Rattle.switch_runner.specs.declared.limits.TheConstants.{MAX_TEXT, MAX_CAPTURE}
 use Rattle.switch_runner.specs.declared.outside.StoreFault.{StoreFault}
 use Rattle.switch_runner.specs.declared.outside.StoreFault.TheVariants as store
-use Rattle.switch_runner.specs.declared.status.ProgramFault.{ProgramFault}
-use Rattle.switch_runner.specs.declared.status.ProgramFault.TheVariants as program
+use Rattle.domino_compile.specs.declared.fault.ProgramFault.{ProgramFault}
+use Rattle.domino_compile.specs.declared.fault.ProgramFault.TheVariants as program
+use Rattle.domino_compile.specs.Accepted.{IsAccepted, IsUnaccepted}
 use Rattle.switch_runner.specs.declared.status.Status.{Status}
 use Rattle.switch_runner.specs.declared.status.Status.TheVariants as status
 use Rattle.switch_runner.specs.declared.command_line.Mode.{Mode}
-use Rattle.switch_runner.specs.declared.command_line.Mode.TheVariants.{One}
+use Rattle.switch_runner.specs.declared.command_line.Mode.TheVariants.{One, Plan}
 use Rattle.switch_runner.specs.CommandLine.{Request}
 use Rattle.switch_runner.specs.Outside.{StoreView, SinkView, Rose, TookFront, gained}
 use Rattle.switch_runner.specs.HelpText.{help_text}
-use Rattle.report_text.specs.RefusalLine.{refusal_line}
-use Rattle.switch_runner.specs.ProgramLine.{program_line}
+use Rattle.report_text.specs.RefusalLine.{program_line, refusal_line}
+use Rattle.code_forms.specs.Staged.{Staged}
+use Rattle.domino_compile.specs.Compiled.{IsCompiled}
 use Rattle.report_text.specs.Report.{report}
-
--- the text is a program of the grammar, which passes the checks
-pub record IsAccepted (text : List ℕ) (program : Program) : Type 0 where
-  pub read : IsProgramText text program
-  pub passes : Passes program
+use Rattle.report_text.specs.PlanLines.{plan_text}
 
 -- the told text is accepted as some program
 abbrev pub IsProgram : List ℕ → Type 0
@@ -43,17 +37,8 @@ lacks_memory (program.Text text_fault.NoMemory) = true
 lacks_memory (program.Text f) = false
 lacks_memory (program.Check check_fault.NoMemory) = true
 lacks_memory (program.Check f) = false
+lacks_memory (program.TooLarge n) = false
 lacks_memory program.NoMemory = true
-
--- the refusal of a text as a fault of a program: want of memory is one fault, of whichever part
-abbrev pub of_text : TextFault → ProgramFault
-of_text text_fault.NoMemory = program.NoMemory
-of_text f = program.Text f
-
--- the refusal of a program that is read, as a fault of a program
-abbrev pub of_check : CheckFault → ProgramFault
-of_check check_fault.NoMemory = program.NoMemory
-of_check f = program.Check f
 
 -- a fault of a program as an answer
 abbrev pub answer_of_program : ProgramFault → Status
@@ -69,12 +54,6 @@ answer_of_capture f = status.Capture f
 abbrev pub answer_of_store : StoreFault → Status
 answer_of_store store.Failed = status.ReadFault
 answer_of_store store.NoMemory = status.NoMemory
-
--- the text isn't accepted for this: it isn't read, or it is read to a program that the checks refuse
-abbrev pub IsUnaccepted : ProgramFault → List ℕ → Type 0
-IsUnaccepted (program.Text f) text = RefusesText text f
-IsUnaccepted (program.Check f) text = (p : Program) × IsProgramText text p × Refused p f
-IsUnaccepted program.NoMemory text = ⊥
 
 -- the told text isn't accepted for this; it is read to at most one byte past the limit of 65536, so that a
 -- longer one is too long with 65537 bytes
@@ -95,14 +74,24 @@ pub record IsRunnable (r : Request) (store : StoreView) : Type 0 where
   pub program : IfSome (store.told r.program) IsProgram
   pub capture : IfSome (store.told r.capture) IsSomeCapture
 
--- the report of a run over these headers
-abbrev pub report_of : Mode → Program → List (List ℤ) → List ℕ
-report_of One p headers = report p headers
+-- this is what a mode prints of a program and headers: the report of the run; or the text of the program's code, with
+-- the places of the headers
+abbrev pub IsTextOf : Mode → Program → List (List ℤ) → List ℕ → Type 0
+IsTextOf One p headers text = text ≡ report p headers
+IsTextOf Plan p headers text = (code : Staged) × IsCompiled p code × (text ≡ plan_text p code headers)
 
--- where both files are told, this holds of the report of the program's run over the capture's headers
-abbrev pub OfReport : Request → StoreView → (List ℕ → Type 0) → Type 0
-OfReport r store P = IfSome (store.told r.program) (λ text. IfSome (store.told r.capture) (λ bytes.
-    (p : Program) × (records : List Record) × IsAccepted text p × IsCapture bytes records × P (report_of r.mode p (headers p.packet.fields records))))
+-- this is what a mode prints of the program that a text is accepted as, and of the headers of the capture that bytes are
+pub record Prints (mode : Mode) (text bytes printed : List ℕ) : Type 0 where
+  pub program : Program
+  pub records : List Record
+  pub accepted : IsAccepted text program
+  pub captured : IsCapture bytes records
+  pub is : IsTextOf mode program (headers program.packet.fields records) printed
+
+-- where both files are told, this holds of what the request prints of them
+abbrev pub OfText : Request → StoreView → (List ℕ → Type 0) → Type 0
+OfText r store P = IfSome (store.told r.program) (λ text. IfSome (store.told r.capture) (λ bytes.
+    (printed : List ℕ) × Prints r.mode text bytes printed × P printed))
 
 -- the count of a name rose
 abbrev pub RoseFor : List ℕ → StoreView → StoreView → Type 0
@@ -119,10 +108,10 @@ Cause status.ReadFault r old new = RoseFor r.program old new ⊎ (IfSome (old.to
 Cause status.WriteFault r old new = IsRunnable r old
 Cause status.NoMemory r old new = Unit {0}
 
--- what the output gains by this answer to a request: the report, a prefix of it where a write failed, or nothing
+-- what the output gains by this answer to a request: what it prints, a prefix of that where a write failed, or nothing
 abbrev pub Gained : Status → Request → StoreView → SinkView → SinkView → Type 0
-Gained status.Done r store old new = OfReport r store (λ text. new.taken ≡ gained text old.taken)
-Gained status.WriteFault r store old new = Rose old.faults new.faults × OfReport r store (TookFront old.taken new.taken)
+Gained status.Done r store old new = OfText r store (λ text. new.taken ≡ gained text old.taken)
+Gained status.WriteFault r store old new = Rose old.faults new.faults × OfText r store (TookFront old.taken new.taken)
 Gained answer r store old new = new ≡ old
 
 -- no read of the program or of the capture failed

@@ -6,7 +6,7 @@ use Rattle.clap.specs.Words.{App, Kinds, Row, Rule, Text, fault_of, first_of, ma
 use Rattle.clap.specs.declared.error.kind.ErrorKind.{ErrorKind}
 use Rattle.clap.specs.declared.error.kind.ErrorKind.TheVariants as kind
 use Rattle.switch_runner.specs.declared.command_line.Mode.{Mode}
-use Rattle.switch_runner.specs.declared.command_line.Mode.TheVariants.{One}
+use Rattle.switch_runner.specs.declared.command_line.Mode.TheVariants.{One, Plan}
 use Rattle.switch_runner.specs.declared.status.Status.{Status}
 use Rattle.switch_runner.specs.declared.status.Status.TheVariants as status
 
@@ -41,7 +41,7 @@ request_with mode program capture = record { mode = mode; program = program; cap
 
 -- the mode of this name
 abbrev pub mode_of : Text → Option Mode
-mode_of name = if bytes_eq name (codes "one") then Some One else None
+mode_of name = if bytes_eq name (codes "one") then Some One else (if bytes_eq name (codes "plan") then Some Plan else None)
 
 -- the capture is the name of a file: one that begins with `gen:` can't be made yet
 abbrev pub is_file : Text → Bool

@@ -6,7 +6,7 @@ use Rattle.std.specs.List.{flat_map}
 abbrev pub help_lines : List (List ℕ)
 help_lines =
     codes "Runs a packet transaction over the packets of a capture, and prints what becomes\n"
-    ∷ codes "of them and of the registers.\n"
+    ∷ codes "of them and of the registers; or prints the transaction's code.\n"
     ∷ codes "\n"
     ∷ codes "Usage: mp5 MODE PROGRAM CAPTURE\n"
     ∷ codes "       mp5 --help\n"
@@ -14,6 +14,7 @@ help_lines =
     ∷ codes "Arguments:\n"
     ∷ codes "  MODE     how to run:\n"
     ∷ codes "             one   one packet after another, in order of arrival, on one thread\n"
+    ∷ codes "             plan  the compiled program: groups, and the places of each packet\n"
     ∷ codes "  PROGRAM  the file of the transaction, a text in Domino of at most 65536 bytes\n"
     ∷ codes "  CAPTURE  the file of the packets, a classic capture (pcap) of Ethernet frames\n"
     ∷ codes "           of at most 134217728 bytes; its name can't begin with gen:\n"
@@ -22,9 +23,9 @@ help_lines =
     ∷ codes "  -h, --help  prints this text on standard error\n"
     ∷ codes "  --          ends the options, so that the name of a file may begin with -\n"
     ∷ codes "\n"
-    ∷ codes "The exit status is 0 where the whole report was written, and else\n"
+    ∷ codes "The exit status is 0 where all was written, and else\n"
     ∷ codes "  1  help was asked for          5  a file could not be read\n"
-    ∷ codes "  2  the words aren't taken      6  the report could not be written\n"
+    ∷ codes "  2  the words aren't taken      6  the output could not be written\n"
     ∷ codes "  3  the program isn't accepted  7  memory ran out\n"
     ∷ codes "  4  the capture isn't read\n"
     ∷ []

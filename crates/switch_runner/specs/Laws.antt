@@ -1,7 +1,7 @@
 -- The laws of the top call: what each answer means, and what a call leaves as it was.
 use Rattle.std.specs.Prelude.{◌≡◌, ◌≢◌, ◌≤◌, ℕ, List, map, Option, Some, IfSome, String, string_bytes}
 use Rattle.capture_io.specs.declared.fault.CaptureFault.{CaptureFault}
-use Rattle.switch_runner.specs.declared.status.ProgramFault.{ProgramFault}
+use Rattle.domino_compile.specs.declared.fault.ProgramFault.{ProgramFault}
 use Rattle.switch_runner.specs.declared.status.Status.{Status}
 use Rattle.switch_runner.specs.declared.status.Status.TheVariants as status
 use Rattle.switch_runner.specs.Outside.{StoreView, SinkView, Rose, TookFront, gained, ChangesOnly, IsKept}

@@ -1,6 +1,8 @@
 pub use Rattle.domino_tree.specs.Sequential
 pub use Rattle.domino_syntax.specs.ProgramText
 pub use Rattle.domino_check.specs.Refused
+pub use Rattle.domino_compile.specs.Accepted
+pub use Rattle.domino_compile.specs.Compiled
 pub use Rattle.domino_names.specs.Infos
 pub use Rattle.domino_eval.specs.Parts
 pub use Rattle.capture_io.specs.ClassicCapture
@@ -8,13 +10,13 @@ pub use Rattle.capture_io.specs.Header
 pub use Rattle.capture_io.specs.Refusal
 pub use Rattle.report_text.specs.Report
 pub use Rattle.report_text.specs.RefusalLine
+pub use Rattle.report_text.specs.PlanLines
 pub mod Outside
 pub mod Faults
 pub mod Running
 pub mod Writing
 pub mod CommandLine
 pub mod HelpText
-pub mod ProgramLine
 pub mod Causes
 pub mod Laws
 pub mod Transfer

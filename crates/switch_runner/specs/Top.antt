@@ -1,12 +1,12 @@
 -- The steps of the top call, one by one.
 use Rattle.std.specs.Prelude.{◌≡◌, ◌≢◌, false, ℕ, ℤ, List, [], ◌∷◌, length, IfSome}
 use Rattle.capture_io.specs.declared.fault.CaptureFault.TheVariants as capture
-use Rattle.switch_runner.specs.declared.status.ProgramFault.{ProgramFault}
-use Rattle.switch_runner.specs.declared.status.ProgramFault.TheVariants as program
 use Rattle.switch_runner.specs.declared.status.Status.{Status}
 use Rattle.switch_runner.specs.declared.status.Status.TheVariants as status
+use Rattle.domino_tree.specs.declared.program.Program.{Program}
+use Rattle.switch_runner.specs.declared.command_line.Mode.{Mode}
 use Rattle.switch_runner.specs.CommandLine.{Request}
-use Rattle.switch_runner.specs.Causes.{Cause, RoseFor, lacks_memory, IsUnaccepted, IsNoProgram, IsNoCapture}
+use Rattle.switch_runner.specs.Causes.{Cause, RoseFor, lacks_memory, IsNoProgram, IsNoCapture, IsTextOf}
 use Rattle.switch_runner.specs.Laws.{Outputs, StopsAt}
 use Rattle.switch_runner.specs.Outside.{StoreView, SinkView, IsKept, Grew, Stopped}
 
@@ -14,11 +14,6 @@ use Rattle.switch_runner.specs.Outside.{StoreView, SinkView, IsKept, Grew, Stopp
 abbrev pub AreWide : ℕ → List (List ℤ) → Type 0
 AreWide width [] = Unit {0}
 AreWide width (p ∷ ps) = (length p ≡ width) × AreWide width ps
-
--- why a text isn't accepted, which may be want of memory
-abbrev pub NotAccepted : List ℕ → ProgramFault → Type 0
-NotAccepted text program.NoMemory = Unit {0}
-NotAccepted text f = (lacks_memory f ≡ false) × IsUnaccepted f text
 
 -- why no program was read of this name
 abbrev pub NoSource : List ℕ → StoreView → StoreView → Status → Type 0
@@ -34,12 +29,16 @@ NoHeaders name old new status.ReadFault = RoseFor name old new
 NoHeaders name old new status.NoMemory = Unit {0}
 NoHeaders name old new s = ⊥
 
--- how a run ends whose report is this text
+-- how a request ends that prints this text
 abbrev pub Ends : List ℕ → SinkView → SinkView → Status → Type 0
 Ends text old new status.Done = Grew text old new
 Ends text old new status.WriteFault = Stopped text old new
 Ends text old new status.NoMemory = new ≡ old
 Ends text old new s = ⊥
+
+-- how a request of a mode ends that prints of this program and these headers
+abbrev pub RunEnds : Mode → Program → List (List ℤ) → SinkView → SinkView → Status → Type 0
+RunEnds mode p headers old new s = (text : List ℕ) × IsTextOf mode p headers text × Ends text old new s
 
 -- what a request does to the store and to the output, by its answer
 pub record Serves (r : Request) (old new : StoreView) (before after : SinkView) (answer : Status) : Type 0 where

@@ -13,6 +13,8 @@ use std::alloc::{AllocError, Global};
 pub(crate) enum Mode {
     /// One packet after another, in order of arrival, on one thread.
     One,
+    /// Not at all: what is told is the program's code, and where each header has its places.
+    Plan,
 }
 
 /// What the words ask for: how to run, and the names of the program and of the capture.
@@ -108,7 +110,11 @@ fn request_of<'a>(matches: &ArgMatches<'a>) -> Result<Request<'a>, Status>
 fn mode_of(name: &str) -> Option<Mode>
     ensures { result ≡ command.mode_of name.now }
 {
-    if name == "one" { Some(Mode::One) } else { None }
+    match name {
+        "one" => Some(Mode::One),
+        "plan" => Some(Mode::Plan),
+        _ => None,
+    }
 }
 
 // Whether the capture is the name of a file, and not one to be made.
@@ -154,6 +160,8 @@ mod tests {
             ("mp5 one p c --", "p", "c"),
             ("mp5 one -- -p --help", "-p", "--help"),
             ("mp5 one p -- --", "p", "--"),
+            ("mp5 plan p c", "p", "c"),
+            ("mp5 plan plan one", "plan", "one"),
         ] {
             let words = words_of(alloc, line)?;
             match asked(alloc, &words) {
@@ -191,7 +199,7 @@ mod tests {
             ),
             (
                 2,
-                "mp5 two p c|mp5 One p c|mp5 on p c|mp5 ones p c|mp5  p c|mp5 p one c",
+                "mp5 two p c|mp5 One p c|mp5 on p c|mp5 ones p c|mp5  p c|mp5 p one c|mp5 Plan p c|mp5 pla p c|mp5 plans p c",
             ),
             (
                 2,

@@ -4,7 +4,7 @@ ghost use Rattle.switch_runner.specs.HelpText.{help_text};
 
 const HELP: &str = "\
 Runs a packet transaction over the packets of a capture, and prints what becomes
-of them and of the registers.
+of them and of the registers; or prints the transaction's code.
 
 Usage: mp5 MODE PROGRAM CAPTURE
        mp5 --help
@@ -12,6 +12,7 @@ Usage: mp5 MODE PROGRAM CAPTURE
 Arguments:
   MODE     how to run:
              one   one packet after another, in order of arrival, on one thread
+             plan  the compiled program: groups, and the places of each packet
   PROGRAM  the file of the transaction, a text in Domino of at most 65536 bytes
   CAPTURE  the file of the packets, a classic capture (pcap) of Ethernet frames
            of at most 134217728 bytes; its name can't begin with gen:
@@ -20,9 +21,9 @@ Options:
   -h, --help  prints this text on standard error
   --          ends the options, so that the name of a file may begin with -
 
-The exit status is 0 where the whole report was written, and else
+The exit status is 0 where all was written, and else
   1  help was asked for          5  a file could not be read
-  2  the words aren't taken      6  the report could not be written
+  2  the words aren't taken      6  the output could not be written
   3  the program isn't accepted  7  memory ran out
   4  the capture isn't read
 ";
@@ -45,7 +46,7 @@ mod tests {
         for line in text.lines() {
             assert!(rt; line.len() <= 80, "'{line}'");
         }
-        for word in ["one", "MODE", "PROGRAM", "CAPTURE", "--help"] {
+        for word in ["one", "plan", "MODE", "PROGRAM", "CAPTURE", "--help"] {
             assert!(rt; text.contains(word), "{word}");
         }
     }

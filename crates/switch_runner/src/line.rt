@@ -3,16 +3,16 @@ ghost use Rattle.std.specs.Prelude.{◌≡◌, ◌<◌, ◌/◌, ◌%◌, decima
 ghost use Rattle.std.specs.Fmt.{signed_decimal};
 ghost use Rattle.std.specs.List.{flat_map};
 ghost use Rattle.switch_runner.specs.Causes.{line};
-ghost use Rattle.report_text.specs.RefusalLine.{hex_digit, hex_word, with_one, with_two, with_name, with_pair, what_word, check_line, refusal_line};
-ghost use Rattle.switch_runner.specs.ProgramLine.{text_line, program_line};
+ghost use Rattle.report_text.specs.RefusalLine.{hex_digit, hex_word, with_one, with_two, with_name, with_pair, what_word, text_line, check_line, program_line, refusal_line};
 ghost use Rattle.switch_runner.specs.Writing.{Writes};
 
 use crate::help::help_text;
 use crate::outside::{Failed, Sink};
-use crate::status::{ProgramFault, Status};
+use crate::status::Status;
 use crate::transfer::write_all;
 use capture_io::CaptureFault;
 use domino_check::{CheckFault, What};
+use domino_compile::ProgramFault;
 use domino_syntax::TextFault;
 use itoa::Buffer;
 use mp5_words::Name;
@@ -174,6 +174,7 @@ fn write_program_refusal<K: Sink>(err: &mut K, fault: &ProgramFault) -> Result<(
     match fault {
         ProgramFault::Text(fault) => write_text_refusal(err, fault),
         ProgramFault::Check(fault) => write_check_refusal(err, fault),
+        ProgramFault::TooLarge(n) => write_one(err, b"mp5: program 13 ", u64::from(*n)),
         ProgramFault::NoMemory => write_text(err, b"mp5: no memory\n"),
     }
 }

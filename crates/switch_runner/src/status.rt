@@ -2,49 +2,7 @@ ghost use Rattle.std.specs.Prelude.{◌≡◌};
 
 use crate::outside::StoreFault;
 use capture_io::CaptureFault;
-use domino_check::CheckFault;
-use domino_syntax::TextFault;
-use thiserror::Error;
-
-/// Why a program isn't accepted.
-#[derive(Debug, Drop, Error)]
-pub enum ProgramFault {
-    /// The text isn't a program of the grammar.
-    #[error("{0}")]
-    Text(TextFault),
-    /// The program doesn't pass the checks.
-    #[error("{0}")]
-    Check(CheckFault),
-    /// Memory ran out.
-    #[error("out of memory")]
-    NoMemory,
-}
-
-impl From<TextFault> for ProgramFault {
-    ghost use Rattle.switch_runner.specs.Causes.{of_text};
-
-    ghost from_gives = { λ fault e. e ≡ of_text fault };
-
-    fn from(fault: TextFault) -> ProgramFault {
-        match fault {
-            TextFault::NoMemory => ProgramFault::NoMemory,
-            fault => ProgramFault::Text(fault),
-        }
-    }
-}
-
-impl From<CheckFault> for ProgramFault {
-    ghost use Rattle.switch_runner.specs.Causes.{of_check};
-
-    ghost from_gives = { λ fault e. e ≡ of_check fault };
-
-    fn from(fault: CheckFault) -> ProgramFault {
-        match fault {
-            CheckFault::NoMemory => ProgramFault::NoMemory,
-            fault => ProgramFault::Check(fault),
-        }
-    }
-}
+use domino_compile::ProgramFault;
 
 /// How a call of the program ends.
 #[derive(Debug, Drop)]
@@ -55,7 +13,7 @@ pub enum Status {
     Help,
     /// The command doesn't take the words.
     Words,
-    /// The program isn't accepted.
+    /// The program isn't compiled.
     Program(ProgramFault),
     /// The capture isn't read.
     Capture(CaptureFault),

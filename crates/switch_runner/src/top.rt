@@ -1,13 +1,15 @@
-//! The top call: the words, the program, the capture, the run, the report.
+//! The top call: the words, the program, the capture, the run, and what is printed.
 ghost use Rattle.std.specs.Prelude.{◌≡◌, List, length, map, string_bytes, IfOk, IfErr, IfSome, None};
 ghost use Rattle.capture_io.specs.ClassicCapture.{Record, IsCapture};
 ghost use Rattle.capture_io.specs.Header.{headers};
-ghost use Rattle.switch_runner.specs.Causes.{IsAccepted, ComesWhere, report_of};
+ghost use Rattle.domino_compile.specs.Accepted.{IsAccepted};
+ghost use Rattle.switch_runner.specs.Causes.{ComesWhere};
 ghost use Rattle.switch_runner.specs.CommandLine.{AsksForHelp, IsRefused, request_with};
 ghost use Rattle.switch_runner.specs.Laws.{Because, CaptureAlways, IsComplete, Laws, ProgramAlways, ReadsAsked, Reports, StopsAtProgram, Tells, request, texts};
 ghost use Rattle.switch_runner.specs.Outside.{ChangesOnly, IsKept};
+ghost use Rattle.report_text.specs.PlanLines.{plan_text};
 ghost use Rattle.report_text.specs.Report.{report};
-ghost use Rattle.switch_runner.specs.Top.{AreWide, NoSource, NoHeaders, NotAccepted, Ends, Serves};
+ghost use Rattle.switch_runner.specs.Top.{AreWide, NoSource, NoHeaders, Ends, RunEnds, Serves};
 
 use crate::block::Block;
 use crate::command_line::{Mode, asked};
@@ -15,15 +17,16 @@ use crate::fabric::Fabric;
 use crate::limits::{MAX_CAPTURE, MAX_TEXT};
 use crate::line::write_line;
 use crate::outside::{Failed, Sink, Store};
+use crate::plan::write_plan;
 use crate::report::write_report;
 use crate::run::run_one;
-use crate::status::{ProgramFault, Status};
+use crate::status::Status;
 use crate::transfer::read_whole;
 use capture_io::{Capture, read_capture};
-use domino_check::{Checked, check};
-use domino_syntax::read_program;
+use domino_check::Checked;
+use domino_compile::{Compiled, compile};
 use mp5_words::FieldNames;
-use report_text::labels_of;
+use report_text::{Line, PlanText, labels_of};
 use std::alloc::Global;
 
 /// Runs the program on the words of a command line, whose first word is the program's own name.
@@ -41,7 +44,7 @@ pub fn switch_top<S: Store, K: Sink, F: Fabric>(
     ensures refused { ComesWhere (IsRefused (texts words.now)) result Status.Words }
     ensures untaken { request words.now ≡ None → (store.new ≡ store.old) × (out.new ≡ out.old) }
 
-    // Each other answer has its cause, and the output gains the whole report, a prefix
+    // Each other answer has its cause, and the output gains all that is printed, a prefix
     // of it or nothing.
     ensures because { Because words.now (S.seen store.old) (S.seen store.new) result }
     ensures out { Reports words.now (S.seen store.old) (K.seen out.old) (K.seen out.new) result }
@@ -90,7 +93,7 @@ fn run_words<S: Store, K: Sink>(
     }
 }
 
-/// Reads the program and the capture, runs the transaction and writes the report.
+/// Reads the program and the capture, and then does what the mode says.
 fn serve<S: Store, K: Sink>(
     alloc: Global,
     mode: Mode,
@@ -102,35 +105,26 @@ fn serve<S: Store, K: Sink>(
     ensures { Serves (request_with mode program.now capture.now)
         (S.seen store.old) (S.seen store.new) (K.seen out.old) (K.seen out.new) result }
 {
-    let checked = match read_source(alloc, store, program) {
-        Ok(checked) => checked,
+    let compiled = match read_source(alloc, store, program) {
+        Ok(compiled) => compiled,
         Err(status) => return status,
     };
-    let headers = match read_headers(alloc, store, capture, checked.field_names()) {
+    let headers = match read_headers(alloc, store, capture, compiled.source.field_names()) {
         Ok(headers) => headers,
         Err(status) => return status,
     };
-    run_and_report(alloc, mode, &checked, headers, out)
+    run_and_print(alloc, mode, &compiled, headers, out)
 }
 
-/// Reads a program.
-fn read_source<S: Store>(alloc: Global, store: &mut S, name: &str) -> Result<Checked, Status>
+/// Reads a program and compiles it.
+fn read_source<S: Store>(alloc: Global, store: &mut S, name: &str) -> Result<Compiled, Status>
     ensures only { ChangesOnly name.now (S.seen store.old) (S.seen store.new) }
     ensures read { IfOk result
-        (λ program. IfSome ((S.seen store.old).told name.now) (λ text. IsAccepted text program)) }
+        (λ c. IfSome ((S.seen store.old).told name.now) (λ text. IsAccepted text c.program)) }
     ensures refused { IfErr result (NoSource name.now (S.seen store.old) (S.seen store.new)) }
 {
     let text = read_whole(alloc, store, name, MAX_TEXT)?;
-    Ok(accept(alloc, &text)?)
-}
-
-/// The program that a text is accepted as.
-fn accept(alloc: Global, text: &[u8]) -> Result<Checked, ProgramFault>
-    ensures read { IfOk result (λ program. IsAccepted text.now program) }
-    ensures refused { IfErr result (NotAccepted text.now) }
-{
-    let program = read_program(alloc, text)?;
-    Ok(check(alloc, program)?)
+    Ok(compile(alloc, &text)?)
 }
 
 /// Reads a capture.
@@ -149,19 +143,21 @@ fn read_headers<S: Store>(
     Ok(read_capture(alloc, &bytes, fields)?)
 }
 
-/// Runs the transaction on each header in the way of the mode, and then writes the report.
-fn run_and_report<K: Sink>(
+/// Prints of the program and the headers what the mode prints.
+fn run_and_print<K: Sink>(
     alloc: Global,
     mode: Mode,
-    checked: &Checked,
+    compiled: &Compiled,
     headers: Capture,
     out: &mut K,
 ) -> Status
-    requires { AreWide (length checked.now.packet.fields) headers }
-    ensures { Ends (report_of mode checked.now headers) (K.seen out.old) (K.seen out.new) result }
+    requires { AreWide (length compiled.now.program.packet.fields) headers }
+    ensures { RunEnds mode compiled.now.program headers
+        (K.seen out.old) (K.seen out.new) result }
 {
     match mode {
-        Mode::One => run_in_order(alloc, checked, headers, out),
+        Mode::One => run_in_order(alloc, &compiled.source, headers, out),
+        Mode::Plan => print_code(alloc, compiled, &headers, out),
     }
 }
 
@@ -188,6 +184,27 @@ fn run_in_order<K: Sink>(alloc: Global, checked: &Checked, headers: Capture, out
         checked.arrays(),
         &end.bench,
     ) {
+        Ok(()) => Status::Done,
+        Err(Failed) => Status::WriteFault,
+    }
+}
+
+/// Writes the text of the program's code, with the places of each header.
+fn print_code<K: Sink>(alloc: Global, compiled: &Compiled, headers: &Capture, out: &mut K) -> Status
+    requires { AreWide (length compiled.now.program.packet.fields) headers.now }
+    ensures { Ends (plan_text compiled.now.program compiled.now.code headers.now)
+        (K.seen out.old) (K.seen out.new) result }
+{
+    let Ok(mut text) = PlanText::new(alloc, &compiled.source, &compiled.code, headers) else {
+        return Status::NoMemory;
+    };
+    let Ok(mut line) = Line::for_program(alloc, &compiled.source) else {
+        return Status::NoMemory;
+    };
+    let Ok(block) = Block::new(alloc) else {
+        return Status::NoMemory;
+    };
+    match write_plan(block, out, &mut text, &mut line) {
         Ok(()) => Status::Done,
         Err(Failed) => Status::WriteFault,
     }

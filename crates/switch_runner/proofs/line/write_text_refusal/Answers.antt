@@ -1,6 +1,5 @@
 use Rattle.std.proofs.Common.{◌∙◌, codes, sym, ap}
-use Rattle.report_text.specs.RefusalLine.{with_one}
-use Rattle.switch_runner.specs.ProgramLine.{text_line}
+use Rattle.report_text.specs.RefusalLine.{with_one, text_line}
 use Rattle.switch_runner.proofs.WritingLemmas.{puts_same}
 use Rattle.switch_runner.proofs.line.write_text_refusal.Goals as goal
 
