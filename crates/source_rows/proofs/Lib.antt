@@ -4,3 +4,6 @@ mod StepLemmas
 pub mod PlaceLemmas
 pub mod BelowLemmas
 pub mod GroupLemmas
+mod MemberLemmas
+mod OrderLemmas
+mod ShardLemmas

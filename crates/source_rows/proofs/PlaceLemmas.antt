@@ -23,7 +23,8 @@ twice : (infos : List ArrayInfo) → map (λ (i : ArrayInfo). i.length) infos �
 twice [] = refl
 twice (x ∷ infos) = ap (λ l. x.length ∷ l) (twice infos)
 
-cells_are : (p : Program) (a : ℕ) → cells_in (infos_of p) a ≡ cells_of p a
+-- as many as the program declares
+pub cells_are : (p : Program) (a : ℕ) → cells_in (infos_of p) a ≡ cells_of p a
 cells_are p a = ap (λ l. get_or l a 1) (twice (infos_of p) ∙ ap (map (λ (d : Array). d.length)) (infos_are p))
 
 -- the places in the arrays as they are declared are those of the program

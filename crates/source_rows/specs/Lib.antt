@@ -5,3 +5,7 @@ pub mod Marks
 pub mod MarkViews
 pub mod MarkState
 pub mod Opened
+pub mod Members
+pub mod Order
+pub mod Shards
+pub mod Answers

@@ -15,9 +15,9 @@ pub(crate) fn arrays_in(alloc: Global, expr: &CheckedExpr) -> Result<Items<u32>,
     Ok(arrays)
 }
 
-// The arrays in an expression go to the end of the list.
+/// The arrays in an expression go to the end of the list.
 #[cycle(push_arrays)]
-fn push_arrays(out: &mut Items<u32>, expr: &CheckedExpr) -> Result<(), AllocError>
+pub(crate) fn push_arrays(out: &mut Items<u32>, expr: &CheckedExpr) -> Result<(), AllocError>
     ensures { OnOk result (out.new ≡ out.old ++ numbered_arrays expr.now) }
 {
     match expr {

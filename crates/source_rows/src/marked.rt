@@ -1,15 +1,13 @@
 //! The walk over a body, with what a header tells of each value.
-ghost use Rattle.std.specs.Prelude.{◌≡◌, ◌∷◌, ◌++◌, [], List, ℕ, IfOk, OnOk, Option, Some, None, map, length, replicate, ◌<◌};
+ghost use Rattle.std.specs.Prelude.{◌≡◌, ◌<◌, IfOk, OnOk, None, length, replicate};
 ghost use Rattle.mp5_words.specs.Copies.{touched};
 ghost use Rattle.mp5_words.specs.Domain.{Mark as Known};
 ghost use Rattle.domino_names.specs.Infos.{infos_of};
 ghost use Rattle.domino_check.specs.NumberedMeaning.{numbered_arrays};
 ghost use Rattle.domino_check.specs.Place.{marked_walk, header_marks};
-ghost use Rattle.domino_check.specs.Walk.{Walks};
-ghost use Rattle.source_rows.specs.MarkState.{state_of};
+ghost use Rattle.source_rows.specs.MarkState.{state_of, holds_under, fails_under, ArmLeads, ArmsLead};
 ghost use Rattle.source_rows.specs.MarkViews.{marks_of, indexes_in, touching, stmt_walk, block_walk};
-ghost use Rattle.source_rows.specs.MarkViews.{arm_touched, chain_walk, last_in, guard_in, arm_cond};
-ghost use Rattle.source_rows.specs.MarkViews.{touching_all, field_walk, cell_walk, set_value, stored_value};
+ghost use Rattle.source_rows.specs.MarkViews.{guard_in, touching_all, field_walk, cell_walk, set_value, stored_value};
 
 use crate::arrays::arrays_in;
 use crate::mark::{Mark, copy_of, known, mark_at, no, pick, put_mark, same, yes};
@@ -102,9 +100,7 @@ fn walk_arms(
     walked: &mut Walked,
 ) -> Result<Option<Mark>, AllocError>
     requires { length walked.old.copies.items ≡ length (infos_of checked.now) }
-    ensures walked { IfOk result (λ otherwise. (last : Option (List (Walks Known)))
-        → chain_walk checked.now arms.now last context.now (state_of walked.old)
-        ≡ last_in checked.now last otherwise (state_of walked.new)) }
+    ensures walked { IfOk result (ArmsLead checked.now arms.now context.now walked.old walked.new) }
     ensures long { OnOk result (length walked.new.copies.items ≡ length (infos_of checked.now)) }
 {
     let mut otherwise = copied(alloc, context)?;
@@ -125,15 +121,11 @@ fn walk_arm(
     walked: &mut Walked,
 ) -> Result<Branch, AllocError>
     requires { length walked.old.copies.items ≡ length (infos_of checked.now) }
-    ensures holds { IfOk result (λ b. b.holds ≡ (marks_of checked.now).yes
-        (guard_in checked.now context.now)
-        (arm_cond checked.now arm.now context.now (state_of walked.old))) }
-    ensures fails { IfOk result (λ b. b.fails ≡ (marks_of checked.now).no
-        (guard_in checked.now context.now)
-        (arm_cond checked.now arm.now context.now (state_of walked.old))) }
-    ensures walked { IfOk result (λ b. state_of walked.new
-        ≡ block_walk checked.now arm.now.body (Some b.holds)
-        (arm_touched checked.now arm.now context.now (state_of walked.old))) }
+    ensures holds { IfOk result
+        (λ b. b.holds ≡ holds_under checked.now arm.now context.now walked.old) }
+    ensures fails { IfOk result
+        (λ b. b.fails ≡ fails_under checked.now arm.now context.now walked.old) }
+    ensures walked { IfOk result (ArmLeads checked.now arm.now context.now walked.old walked.new) }
     ensures long { OnOk result (length walked.new.copies.items ≡ length (infos_of checked.now)) }
 {
     let guard = guard(alloc, checked, context)?;
@@ -149,7 +141,8 @@ fn walk_arm(
 // Before the first statement the fields are the header's words, and no array is touched.
 fn start(alloc: Global, checked: &Checked, header: &[i32]) -> Result<Walked, AllocError>
     ensures fields { IfOk result (λ w. w.fields.items ≡ header_marks header.now) }
-    ensures copies { IfOk result (λ w. w.copies.items ≡ replicate (length (infos_of checked.now)) None) }
+    ensures copies { IfOk result
+        (λ w. w.copies.items ≡ replicate (length (infos_of checked.now)) None) }
 {
     Ok(Walked {
         fields: words(alloc, header)?,

@@ -1,13 +1,12 @@
 //! The walk over a body, with the arrays behind each value.
-ghost use Rattle.std.specs.Prelude.{◌≡◌, ◌∷◌, ◌++◌, [], List, ℕ, IfOk, OnOk, Option, Some, None, map, length, replicate, ◌<◌};
+ghost use Rattle.std.specs.Prelude.{◌≡◌, ◌<◌, [], IfOk, OnOk, None, length, replicate};
 ghost use Rattle.mp5_words.specs.Copies.{touched};
 ghost use Rattle.mp5_words.specs.Domain.{sources};
 ghost use Rattle.domino_names.specs.Infos.{infos_of};
 ghost use Rattle.domino_check.specs.NumberedMeaning.{numbered_arrays};
 ghost use Rattle.domino_check.specs.SourceGroups.{source_walk, no_sources};
-ghost use Rattle.domino_check.specs.Walk.{Walks};
-ghost use Rattle.source_rows.specs.State.{state_of};
-ghost use Rattle.source_rows.specs.Views.{Sources, indexes_in, touching, stmt_walk, block_walk, arm_touched, chain_walk, last_in, guard_in, arm_cond, touching_all, field_walk, cell_walk, set_value, stored_value};
+ghost use Rattle.source_rows.specs.State.{state_of, behind_arm, ArmLeads, ArmsLead};
+ghost use Rattle.source_rows.specs.Views.{Sources, indexes_in, touching, stmt_walk, block_walk, guard_in, touching_all, field_walk, cell_walk, set_value, stored_value};
 
 use crate::arrays::arrays_in;
 use crate::sets::{alone, both, put_set, set_at};
@@ -93,9 +92,7 @@ fn walk_arms(
     walked: &mut Walked,
 ) -> Result<Option<Items<u32>>, AllocError>
     requires { length walked.old.copies.items ≡ length (infos_of checked.now) }
-    ensures walked { IfOk result (λ otherwise. (last : Option (List (Walks Sources)))
-        → chain_walk checked.now arms.now last context.now (state_of walked.old)
-        ≡ last_in checked.now last otherwise (state_of walked.new)) }
+    ensures walked { IfOk result (ArmsLead checked.now arms.now context.now walked.old walked.new) }
     ensures long { OnOk result (length walked.new.copies.items ≡ length (infos_of checked.now)) }
 {
     let mut otherwise = copied(alloc, context)?;
@@ -115,11 +112,9 @@ fn walk_arm(
     walked: &mut Walked,
 ) -> Result<Items<u32>, AllocError>
     requires { length walked.old.copies.items ≡ length (infos_of checked.now) }
-    ensures fails { IfOk result (λ fails. fails ≡ guard_in checked.now context.now
-        ++ arm_cond checked.now arm.now context.now (state_of walked.old)) }
-    ensures walked { IfOk result (λ fails. state_of walked.new
-        ≡ block_walk checked.now arm.now.body (Some fails)
-        (arm_touched checked.now arm.now context.now (state_of walked.old))) }
+    ensures fails { IfOk result
+        (λ fails. fails ≡ behind_arm checked.now arm.now context.now walked.old) }
+    ensures walked { IfOk result (ArmLeads checked.now arm.now context.now walked.old walked.new) }
     ensures long { OnOk result (length walked.new.copies.items ≡ length (infos_of checked.now)) }
 {
     let guard = guard(alloc, checked, context)?;
@@ -133,7 +128,8 @@ fn walk_arm(
 // Before the first statement nothing is behind a field, and no array is touched.
 fn start(alloc: Global, checked: &Checked) -> Result<Walked, AllocError>
     ensures fields { IfOk result (λ w. w.fields.items ≡ no_sources checked.now) }
-    ensures copies { IfOk result (λ w. w.copies.items ≡ replicate (length (infos_of checked.now)) None) }
+    ensures copies { IfOk result
+        (λ w. w.copies.items ≡ replicate (length (infos_of checked.now)) None) }
 {
     let fields = checked.program().packet.fields.len();
     Ok(Walked {
