@@ -1,8 +1,9 @@
-# make run      compiles the program without proving it, and runs PROGRAM on CAPTURE: about a minute
+# make run      compiles the program without proving it, and runs PROGRAM on CAPTURE in a MODE: about a minute
 # make build    proves and builds the program, crates/mp5/out/mp5
 # make install  puts the program and its manual page below PREFIX, and builds the program first where it isn't there
 # make test     is the gate: every proof, edit, test and program
 
+MODE = one
 PROGRAM = examples/count.domino
 CAPTURE = examples/count.pcap
 PREFIX = /usr/local
@@ -12,7 +13,7 @@ PREFIX = /usr/local
 run:
 	@cd crates/mp5 && rt try \
 	  --data transaction.domino="$(abspath $(PROGRAM))" --data packets.pcap="$(abspath $(CAPTURE))" \
-	  -- one transaction.domino packets.pcap
+	  -- $(MODE) transaction.domino packets.pcap
 
 build: crates/mp5/out/mp5
 
