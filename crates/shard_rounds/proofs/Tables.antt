@@ -1,5 +1,5 @@
 -- What the table keeps when it starts and when a plan is applied, and what is read of it.
-use Rattle.std.proofs.Common.{◌≡◌, ℕ, zero, suc, ◌+◌, ◌-◌, ◌*◌, ◌<◌, ◌≤◌, ◌==◌, cond, nat_lt, List, [], ◌∷◌, ◌++◌, length, take, drop, slice_index, slice_index_or, refl, sym, ap, subst, ◌∙◌, arith, length-append, length-drop, count_by, sum, find, option_map, unwrap_or, Option}
+use Rattle.std.proofs.Common.{◌≡◌, ℕ, zero, suc, ◌+◌, ◌-◌, ◌*◌, ◌<◌, ◌≤◌, ◌==◌, cond, nat_lt, List, [], ◌∷◌, ◌++◌, length, take, drop, slice_index, slice_index_or, refl, sym, ap, subst, ◌∙◌, arith, length-append, length-drop, drop-drop, count_by, sum, find, option_map, unwrap_or, Option}
 use Rattle.std.specs.List.{All}
 use Rattle.std.proofs.Math.Nat.{mod-lt, mul-le-mul_right}
 use Rattle.std.proofs.Math.Seq.{take-append-add}
@@ -241,6 +241,21 @@ owner_at o now rows log sizes a b e g u start row found same h is unit begins fi
     let parts = last_moves sizes log e h.whole in
     let first : start ≡ sum (take e sizes) = omega arith in
     rw (finds, first, reads) (owner_found o now rows log sizes a b e g u same h is unit)
+
+-- a plan is what stands at its place among all moves
+cut_at : (sizes : List ℕ) (log : List Move) (e : ℕ) → e < length sizes → slice_index_or (cut sizes log) e [] ≡ take (slice_index sizes e) (drop (sum (take e sizes)) log)
+cut_at [] log e lt = absurd (omega arith)
+cut_at (n ∷ ns) log zero lt = refl
+cut_at (n ∷ ns) log (suc e) lt =
+    cut_at ns (drop n log) e (omega arith)
+    ∙ ap (take (slice_index ns e)) (drop-drop (sum (take e ns)) n log ∙ ap (λ k. drop k log) (sym (sum_by-cons (λ k. k) n (take e ns))))
+
+pub plan_at : (o now : OwnerTable) (log : List Move) (sizes : List ℕ) (e start count : ℕ) → o ≡ now → o.plans ≡ cut sizes log → sum sizes ≡ length log → e < length sizes
+    → start + sum (drop e sizes) ≡ length log → count ≡ slice_index sizes e → take count (drop start log) ≡ slice_index_or now.plans e []
+plan_at o now log sizes e start count same is whole lt begins sized =
+    let parts = last_moves sizes log e whole in
+    let first : start ≡ sum (take e sizes) = omega arith in
+    (λ i. take (sized i) (drop (first i) log)) ∙ sym (cut_at sizes log e lt) ∙ ap (λ (plans : List (List Move)). slice_index_or plans e []) (sym is ∙ ap (λ (r : OwnerTable). r.plans) same)
 
 -- the same as `applied`, of what the fields hold
 pub applied_at : (o now : OwnerTable) (rows rows' : List (List ℕ)) (log log' : List Move) (sizes sizes' : List ℕ) (a b a' b' : ℕ) (ms : List Move) → o ≡ now → Holds o rows log sizes a b → length now.plans < now.room → IsPlan now ms → a ≤ a' → b' ≡ b

@@ -246,6 +246,8 @@ mod tests {
         let moves = choose_moves(rt.alloc(), &loads, &owners)?;
         assert_eq!(rt; moves.len(), 1);
         owners.apply(&Plan { moves });
+        assert_eq!(rt; owners.applied(), 1);
+        assert_eq!(rt; owners.plan(0).len(), 1);
         assert_eq!(rt; owners.of(0, 0), 1);
         assert_eq!(rt; owners.at(0, 0, 0), 0);
         assert_eq!(rt; owners.at(1, 0, 0), 1);

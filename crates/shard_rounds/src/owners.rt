@@ -1,5 +1,5 @@
 //! The owners of the units.
-ghost use Rattle.std.specs.Prelude.{◌≡◌, ◌+◌, ◌*◌, ◌^◌, ◌<◌, ◌≤◌, ℕ, List, [], ◌∷◌, ◌++◌, length, find, option_map, sum, IfOk, slice_index, slice_set, All, replicate};
+ghost use Rattle.std.specs.Prelude.{◌≡◌, ◌+◌, ◌*◌, ◌^◌, ◌<◌, ◌≤◌, ℕ, List, [], ◌∷◌, ◌++◌, length, find, option_map, sum, IfOk, slice_index, slice_index_or, slice_set, All, replicate};
 ghost use Rattle.shard_rounds.specs.declared.plan.Move.{Move};
 ghost use Rattle.shard_rounds.specs.Rounds.{unmoved, owner, owner_now, IsUnit, IsPlan, AreUnits, IsTable};
 ghost use Rattle.shard_rounds.specs.Choice.{owners_of};
@@ -91,6 +91,25 @@ impl Owners {
             Some(giver) => giver,
             None => self.rows[g as usize].at(u),
         }
+    }
+
+    /// How many plans were applied.
+    pub fn applied(&self) -> u32
+        ensures { result ≡ length self.now.plans }
+    {
+        self.sizes.len() as u32
+    }
+
+    /// The moves of plan `e`, which is the one after the first `e`. Takes a time in proportion to the plans
+    /// after it.
+    pub fn plan(&self, e: u32) -> &[Move]
+        requires { e < length self.now.plans }
+        ensures { result.now ≡ slice_index_or self.now.plans e [] }
+    {
+        let later = &self.sizes[e as usize..];
+        let start = self.log.len() - total(later) as usize;
+        let count = self.sizes[e as usize] as usize;
+        &self.log[start..start + count]
     }
 
     /// Applies the next plan.

@@ -1,0 +1,12 @@
+pub mod RoundLemmas
+pub mod FrontLemmas
+pub mod LawLemmas
+pub mod AnnounceLemmas
+pub mod ServeLemmas
+pub mod ServedLemmas
+pub mod StartLemmas
+pub mod MoveLemmas
+pub mod LeaveLemmas
+pub mod TakeLemmas
+pub mod DoneLemmas
+pub mod GivenLemmas

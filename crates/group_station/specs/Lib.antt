@@ -1,0 +1,3 @@
+pub mod Station
+pub mod Steps
+pub mod Holding
