@@ -1,0 +1,4 @@
+pub mod Lines
+pub mod SlotLemmas
+pub mod SlotMoves
+pub mod SlotStart
