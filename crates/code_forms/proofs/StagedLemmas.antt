@@ -1,11 +1,11 @@
 -- Staged code as plain data: what is written, what is used, and the values of instructions.
-use Rattle.std.proofs.Common.{◌≡◌, ℕ, zero, suc, ◌+◌, ◌<◌, ◌≤◌, nat_lt, nat_le, ℤ, Bool, true, List, [], ◌∷◌, ◌++◌, length, map, get_or, Option, None, Some, refl, ap, subst, ◌∙◌, ◌⊎◌, inl, inr, arith}
+use Rattle.std.proofs.Common.{◌≡◌, ℕ, zero, suc, ◌+◌, ◌<◌, ◌≤◌, nat_lt, nat_le, ℤ, Bool, true, false, cond, List, [], ◌∷◌, ◌++◌, length, map, get_or, Option, None, Some, refl, ap, subst, ◌∙◌, ◌⊎◌, inl, inr, arith}
 use Rattle.std.proofs.lemmas.Bool.Decides.{eqb_tells, nat_tests}
 use Rattle.code_forms.specs.declared.flat.Instr.{Instr}
 use Rattle.code_forms.specs.declared.flat.FlatArray.{FlatArray}
 use Rattle.code_forms.specs.FlatValid.{Written, is_limited, instrs_fit, arrays_fit, array_fits, is_life, is_some, events, instr_at, header_slots, after_all}
 use Rattle.code_forms.specs.FlatMeaning.{Slots, instr_value, covered, copy_in, steps_in, steps_of, flat_length}
-use Rattle.code_forms.specs.Staged.{Staged, Member, slot_of_index, number_at, IsWritten, of_header, of_instr, IsUsed, by_instr, at_end, IsStaged}
+use Rattle.code_forms.specs.Staged.{Staged, Member, group_at, first_array, HasSizes, slot_of_index, number_at, IsWritten, of_header, of_instr, IsUsed, by_instr, at_end, IsStaged}
 use Rattle.code_forms.specs.StagedMeaning.{code_values}
 use Rattle.mp5_words.specs.Domain.{Loads, words}
 use Rattle.mp5_words.specs.Cells.{word_at}
@@ -59,6 +59,23 @@ array_fits_at instrs w n (f ∷ arrays) (suc j) within fit =
 pub array_at : (c : Staged) → IsStaged c → (a : ℕ) → a < length c.arrays
     → (1 ≤ flat_length c.arrays a) × (flat_length c.arrays a ≤ 65536) × ((t : Bool) × (is_life t (events (0 + a) c.instrs) ≡ true))
 array_at c staged a below = array_fits_at c.instrs (after_all (header_slots c.fields) c.instrs) 0 c.arrays a below (arrays_fitting c staged)
+
+-- there are few fields
+pub few_fields : (c : Staged) → IsStaged c → c.fields ≤ 32
+few_fields c staged =
+    let few : nat_le c.fields 32 ≡ true = and_front (nat_le c.fields 32) _ (limited c staged) in
+    grind (arith, nat_tests, few)
+
+-- a group has as many units as its first array has cells, or one
+pub has_sizes : (c : Staged) → IsStaged c → HasSizes c
+has_sizes c staged g less = by (group_at c g).sharded
+  where
+    first : first_array (group_at c g) < length c.arrays
+    first = ((staged.groups g less).there (first_array (group_at c g)) (first_member (group_at c g).arrays (staged.groups g less).some)).0
+
+    by : (b : Bool) → (1 ≤ cond b (flat_length c.arrays (first_array (group_at c g))) 1) × (cond b (flat_length c.arrays (first_array (group_at c g))) 1 ≤ 65536)
+    by true = let all = array_at c staged (first_array (group_at c g)) first in (all.0, all.1)
+    by false = (omega arith, omega arith)
 
 pub lives : (c : Staged) → IsStaged c → Lives (length c.arrays) c.instrs
 lives c staged a below =

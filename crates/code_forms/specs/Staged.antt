@@ -157,6 +157,10 @@ first_array g = slice_index g.arrays 0
 abbrev pub unit_count : Staged → StagedGroup → ℕ
 unit_count c g = if g.sharded then flat_length c.arrays (first_array g) else 1
 
+-- each group has from 1 to 65,536 units
+abbrev pub HasSizes : Staged → Type 0
+HasSizes c = (g : ℕ) → g < length c.groups → (1 ≤ unit_count c (group_at c g)) × (unit_count c (group_at c g) ≤ 65536)
+
 -- how many cells of an array a unit of its group has
 abbrev pub share : Staged → StagedGroup → ℕ → ℕ
 share c g a = if g.sharded then 1 else flat_length c.arrays a

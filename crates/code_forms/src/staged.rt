@@ -1,6 +1,6 @@
 //! Flat code in the parts in which it runs.
-ghost use Rattle.std.specs.Prelude.{◌≡◌, ◌<◌, length, IfOk};
-ghost use Rattle.code_forms.specs.Staged.{slot_count, group_at, unit_count, in_parts, IsStaged, IsGroup};
+ghost use Rattle.std.specs.Prelude.{◌≡◌, ◌<◌, ◌≤◌, length, IfOk};
+ghost use Rattle.code_forms.specs.Staged.{slot_count, group_at, unit_count, in_parts, IsStaged, IsGroup, HasSizes};
 ghost use Rattle.code_forms.specs.StagedMeaning.{PlacesAreIndexes, start_of};
 ghost use Rattle.code_forms.specs.FlatMeaning.{flat_length};
 
@@ -54,16 +54,19 @@ impl StagedCode {
         })
     }
 
-    /// How many fields the packet has.
+    /// How many fields the packet has: at most 32.
     pub fn fields(&self) -> u32
-        ensures { result ≡ self.now.fields }
+        ensures count { result ≡ self.now.fields }
+        ensures few { self.now.fields ≤ 32 }
     {
         self.fields
     }
 
-    /// How many groups of arrays there are.
+    /// How many groups of arrays there are: at most 16. Each has from 1 to 65,536 units.
     pub fn groups(&self) -> u32
-        ensures { result ≡ length self.now.groups }
+        ensures count { result ≡ length self.now.groups }
+        ensures few { length self.now.groups ≤ 16 }
+        ensures sizes { HasSizes self.now }
     {
         self.parts.groups.len() as u32
     }

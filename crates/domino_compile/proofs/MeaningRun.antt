@@ -14,7 +14,8 @@ use Rattle.code_forms.specs.StagedMeaning.{Units, is_touching, place, is_place, 
 use Rattle.code_forms.proofs.UnitLemmas.{has_units}
 use Rattle.branch_removal.specs.Kept.{untouched}
 use Rattle.domino_compile.specs.MeaningKept.{units_of, EndsAsSource, MeansSource}
-use Rattle.domino_compile.specs.MeaningRun.{start_units, units_over, header_at, values_at, AreWide, RunsAsSource}
+use Rattle.code_forms.specs.OverHeaders.{start_units, units_over, header_in, values_at}
+use Rattle.domino_compile.specs.MeaningRun.{AreWide, RunsAsSource}
 
 -- before an execution no array is touched, by either way to say it
 none_touched : (arrays : List Array) → map (λ (d : Array). false) arrays ≡ replicate (length arrays) false

@@ -1,27 +1,12 @@
 -- What staged code does on headers, one after another, and that it is what the source does on them.
-use Rattle.std.specs.Prelude.{◌≡◌, ℕ, ◌<◌, ℤ, Bool, false, List, [], length, take, All}
-use Rattle.std.specs.List.{fold, slice_index_or}
+use Rattle.std.specs.Prelude.{◌≡◌, ℕ, ◌<◌, ℤ, Bool, false, List, [], length, All}
+use Rattle.std.specs.List.{slice_index_or}
 use Rattle.domino_tree.specs.declared.program.Program.{Program}
 use Rattle.domino_tree.specs.Sequential.{one}
 use Rattle.code_forms.specs.Staged.{Staged, group_at, unit_count}
-use Rattle.code_forms.specs.StagedMeaning.{Units, is_touching, start_cells, staged_values, last_words, units_after}
+use Rattle.code_forms.specs.StagedMeaning.{is_touching, last_words}
+use Rattle.code_forms.specs.OverHeaders.{start_units, units_over, values_at}
 use Rattle.domino_compile.specs.MeaningKept.{units_of}
-
--- the units at the start
-abbrev pub start_units : Staged → Units
-start_units c g u = start_cells c (group_at c g)
-
--- the units after headers, one after another
-abbrev pub units_over : Staged → Units → List (List ℤ) → Units
-units_over c units headers = fold (units_after c) units headers
-
--- the header of an arrival
-abbrev pub header_at : List (List ℤ) → ℕ → List ℤ
-header_at headers t = slice_index_or headers t []
-
--- the values of all slots of an arrival, over the units that those before it leave
-abbrev pub values_at : Staged → Units → List (List ℤ) → ℕ → List ℤ
-values_at c units headers t = staged_values c (units_over c units (take t headers)) (header_at headers t)
 
 -- each header has a word for each field
 abbrev pub AreWide : Staged → List (List ℤ) → Type 0

@@ -6,7 +6,8 @@ use Rattle.std.proofs.lemmas.List.Sums.{fold-append}
 use Rattle.std.proofs.Math.Seq.{take-suc}
 use Rattle.code_forms.specs.Staged.{Staged, group_at}
 use Rattle.code_forms.specs.StagedMeaning.{Units, place, is_place, staged_values, cells_after, units_after}
-use Rattle.run_laws.specs.Run.{Run, arrivals, header_at, start_units, units_before, place_of, values_of}
+use Rattle.code_forms.specs.OverHeaders.{start_units}
+use Rattle.run_laws.specs.Run.{Run, arrivals, header_at, units_before, place_of, values_of}
 
 -- the units after one arrival more
 pub units_step : (run : Run) (t : ℕ) → t < arrivals run → units_before run (suc t) ≡ units_after run.code (units_before run t) (header_at run t)

@@ -1,16 +1,20 @@
 -- A run: staged code, the headers of all arrivals, and the settings; and what the code does on the headers, one after
 -- another.
 use Rattle.std.specs.Prelude.{◌≡◌, ℕ, zero, suc, ◌+◌, ◌-◌, ◌/◌, ◌%◌, ◌<◌, ℤ, if◌then◌else◌, List, [], length, map, take, Option, Some, None}
-use Rattle.std.specs.List.{fold, slice_index_or}
 use Rattle.mp5_words.specs.declared.settings.Settings.{Settings}
 use Rattle.code_forms.specs.declared.parts.StagedGroup.{StagedGroup}
-use Rattle.code_forms.specs.Staged.{Staged, group_at, unit_count}
-use Rattle.code_forms.specs.StagedMeaning.{Units, place, is_place, staged_values, start_cells, touched_in, array_set, units_after}
+use Rattle.code_forms.specs.Staged.{Staged, unit_count}
+use Rattle.code_forms.specs.StagedMeaning.{Units, place, is_place, touched_in, array_set}
+use Rattle.code_forms.specs.OverHeaders.{start_units, units_over, header_in, values_at}
 
 pub record Run : Type 0 where
   pub code : Staged
   pub headers : List (List ℤ)
   pub settings : Settings
+
+-- the run of code, headers and settings
+abbrev pub run_of : Staged → List (List ℤ) → Settings → Run
+run_of code headers settings = record { code = code; headers = headers; settings = settings }
 
 -- how many arrivals there are
 abbrev pub arrivals : Run → ℕ
@@ -18,7 +22,7 @@ arrivals run = length run.headers
 
 -- the header of an arrival
 abbrev pub header_at : Run → ℕ → List ℤ
-header_at run t = slice_index_or run.headers t []
+header_at run t = header_in run.headers t
 
 -- the round of an arrival
 abbrev pub round_of : Run → ℕ → ℕ
@@ -34,21 +38,13 @@ home_of run t = t % run.settings.pipelines
 
 -- ---- units
 
--- the units at the start
-abbrev pub start_units : Staged → Units
-start_units c g u = start_cells c (group_at c g)
-
--- the units after these headers, one after another
-abbrev pub units_over : Staged → Units → List (List ℤ) → Units
-units_over c units headers = fold (units_after c) units headers
-
 -- the units before an arrival; past the last one, those after all
 abbrev pub units_before : Run → ℕ → Units
 units_before run t = units_over run.code (start_units run.code) (take t run.headers)
 
 -- the values of all slots of an arrival
 abbrev pub values_of : Run → ℕ → List ℤ
-values_of run t = staged_values run.code (units_before run t) (header_at run t)
+values_of run t = values_at run.code (start_units run.code) run.headers t
 
 -- ---- places and accesses
 

@@ -17,7 +17,7 @@ returns-then-k-head-3-clause-there c =
     let len : vec_len i.canonical ≡ length i.canonical.items = omega (arith, i.canonical.ok.0) in
     let p : Planned = record { program = i.checked.now; code = i.code.now; headers = i.cursor.headers } in
     subst (λ (p : Planned). IsLine (lines_in p) c.args.k c.put_group.new.into.text) c.self.view_is
-    (group-put p c.args.k c.len-head.result c.from-groups.result _ c.arrays.result.now c.put_group.new.into.text c.arrays.ensures.arrays (c.len-head.ensures ∙ len ∙ ap length c.self.invariant.0) (c.from-groups.ensures ∙ c.groups.ensures)
+    (group-put p c.args.k c.len-head.result c.from-groups.result _ c.arrays.result.now c.put_group.new.into.text c.arrays.ensures.arrays (c.len-head.ensures ∙ len ∙ ap length c.self.invariant.0) (c.from-groups.ensures ∙ c.groups.ensures.count)
     c.if-k-head.false c.if-k-head-2.false c.if-k-head-3.true refl c.put_group.ensures.text)
 
 pub returns-else-k-head-3-clause-there : goal.returns-else-k-head-3-clause-there
@@ -26,7 +26,7 @@ returns-else-k-head-3-clause-there c =
     let len : vec_len i.canonical ≡ length i.canonical.items = omega (arith, i.canonical.ok.0) in
     let p : Planned = record { program = i.checked.now; code = i.code.now; headers = i.cursor.headers } in
     on-true c.line.result (λ is. subst (λ (p : Planned). IsLine (lines_in p) c.args.k c.line.new.into.text) c.self.view_is
-    (later-put p c.args.k c.len-head.result c.from-groups.result _ i.cursor.code c.line.new.into.text c.self.invariant.1 (c.len-head.ensures ∙ len ∙ ap length c.self.invariant.0) (c.from-groups.ensures ∙ c.groups.ensures)
+    (later-put p c.args.k c.len-head.result c.from-groups.result _ i.cursor.code c.line.new.into.text c.self.invariant.1 (c.len-head.ensures ∙ len ∙ ap length c.self.invariant.0) (c.from-groups.ensures ∙ c.groups.ensures.count)
     c.if-k-head.false c.if-k-head-2.false c.if-k-head-3.false refl is)) c.line.ensures.there
 
 pub returns-else-k-head-3-clause-behind : goal.returns-else-k-head-3-clause-behind
@@ -35,5 +35,5 @@ returns-else-k-head-3-clause-behind c =
     let len : vec_len i.canonical ≡ length i.canonical.items = omega (arith, i.canonical.ok.0) in
     let p : Planned = record { program = i.checked.now; code = i.code.now; headers = i.cursor.headers } in
     on-false c.line.result (λ is. subst (λ (p : Planned). IsBehind (lines_in p) c.args.k c.line.new.into.text) c.self.view_is
-    (none-put p c.args.k c.len-head.result c.from-groups.result _ i.cursor.code c.line.new.into.text c.self.invariant.1 (c.len-head.ensures ∙ len ∙ ap length c.self.invariant.0) (c.from-groups.ensures ∙ c.groups.ensures)
+    (none-put p c.args.k c.len-head.result c.from-groups.result _ i.cursor.code c.line.new.into.text c.self.invariant.1 (c.len-head.ensures ∙ len ∙ ap length c.self.invariant.0) (c.from-groups.ensures ∙ c.groups.ensures.count)
     c.if-k-head.false c.if-k-head-2.false c.if-k-head-3.false refl is)) c.line.ensures.behind
