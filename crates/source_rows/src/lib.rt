@@ -4,30 +4,23 @@
 
 mod arrays;
 mod group_places;
-#[cfg(test)]
-mod group_rows;
 mod groups;
 mod mark;
 mod mark_values;
 mod marked;
 mod members;
 mod order;
-#[cfg(test)]
-mod place_rows;
 mod places;
-#[cfg(test)]
-mod rows;
 mod sets;
 mod shards;
 mod sources;
 mod table;
 mod trees;
-#[cfg(test)]
-mod unit_rows;
 mod values;
 
 pub use group_places::place;
 pub use groups::groups_of;
+pub use order::text_order;
 pub use places::{array_places, open_arrays};
 pub use shards::{is_sharded, units};
 pub use table::needs;

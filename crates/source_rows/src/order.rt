@@ -9,7 +9,7 @@ use sqlite_items::Items;
 use std::alloc::{AllocError, Global};
 
 /// The arrays that the sites of a program touch, in text order.
-pub(crate) fn text_order(alloc: Global, checked: &Checked) -> Result<Items<u32>, AllocError>
+pub fn text_order(alloc: Global, checked: &Checked) -> Result<Items<u32>, AllocError>
     ensures { IfOk result (λ arrays. arrays ≡ text_order checked.now) }
 {
     let mut arrays = Items::new(alloc);

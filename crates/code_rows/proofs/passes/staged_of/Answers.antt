@@ -1,5 +1,5 @@
 -- the layout is that of the code
-use Rattle.code_rows.proofs.place_rows.staged_of.Goals as goal
+use Rattle.code_rows.proofs.passes.staged_of.Goals as goal
 
 pub resolve-requires : goal.resolve-requires
 resolve-requires c = record {
