@@ -1,5 +1,6 @@
 //! The messages that wait.
-ghost use Rattle.std.specs.Prelude.{◌≡◌, [], ◌∷◌, ◌++◌, ◌<◌, ◌≤◌, length, drop, IfOk, IfSome, IfNone};
+ghost use Rattle.std.specs.Prelude.{◌≡◌, [], ◌∷◌, ◌++◌, ◌<◌, ◌≤◌, length, drop, slice_get, IfOk, IfSome, IfNone};
+ghost use Rattle.std.specs.Option.{option_copied};
 ghost use Rattle.std.specs.VecDeque.{deque_capacity};
 ghost use Rattle.pipe_parts.specs.Waiting.{none_waits, waits_for, with_waiting, IsOutbox};
 
@@ -50,6 +51,15 @@ impl<T: Drop> Outbox<T> {
         self.lines[to as usize].len() as u32
     }
 
+    /// The first item that waits for a pipe. None exactly where none does.
+    pub fn first(&self, to: u32) -> Option<&T>
+        requires { to < length self.now.lines }
+        ensures first { option_copied result ≡ slice_get (waits_for self.now to) 0 }
+        ensures laws { IsOutbox self.now }
+    {
+        self.lines[to as usize].front()
+    }
+
     /// An item waits behind all others for its pipe, for which there are fewer than `room`.
     pub fn push(&mut self, to: u32, item: T)
         requires pipe { to < length self.old.lines }
@@ -82,6 +92,8 @@ mod tests {
         outbox.push(2, 20);
         outbox.push(1, 11);
         assert_eq!(rt; outbox.count(1), 2);
+        assert_eq!(rt; outbox.first(1).copied(), Some(10));
+        assert_eq!(rt; outbox.first(0).copied(), None);
         assert_eq!(rt; outbox.pop(0), None);
         assert_eq!(rt; outbox.pop(1), Some(10));
         assert_eq!(rt; outbox.pop(1), Some(11));

@@ -118,6 +118,7 @@ mod tests {
             env: Env::new(vec![in alloc; 0; 2]?),
             by: [255; 16],
             touched: [0; 16],
+            units: [0; 16],
         })
     }
 
