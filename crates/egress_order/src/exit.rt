@@ -1,5 +1,5 @@
 //! The exit of one pipe.
-ghost use Rattle.std.specs.Prelude.{◌≡◌, ◌⊎◌, ◌+◌, ◌*◌, ◌<◌, ◌≤◌, List, length, IfOk, IfSome, IfNone, OnSome};
+ghost use Rattle.std.specs.Prelude.{◌≡◌, ◌⊎◌, ◌+◌, ◌*◌, ◌<◌, ◌≤◌, ◌↔◌, List, length, IfOk, IfSome, IfNone, OnSome, IsTrue};
 ghost use Rattle.egress_order.specs.OwnPackets.{unentered, own_arrival, leading, left_count, came_home, written, IsAway, IsExit, IsMerged};
 
 use mp5_words::NoMemory;
@@ -65,6 +65,26 @@ impl HomeExit {
         })
     }
 
+    /// The own arrival that enters next. None exactly where `window` own arrivals are out, or none is left to
+    /// enter.
+    pub fn next(&self) -> Option<u32>
+        ensures arrival { IfSome result (λ t. t ≡ own_arrival self.now self.now.entered) }
+        ensures early { IfSome result (λ t. t < self.now.arrivals) }
+        ensures open { OnSome result (self.now.entered < left_count self.now + self.now.window) }
+        ensures none { IfNone result ((self.now.entered ≡ left_count self.now + self.now.window)
+            ⊎ (self.now.arrivals ≤ own_arrival self.now self.now.entered)) }
+        ensures laws { IsExit self.now }
+    {
+        if self.entered == self.left + self.window {
+            return None;
+        }
+        let next = self.pipe + self.entered * self.pipelines;
+        if next >= self.arrivals {
+            return None;
+        }
+        Some(next)
+    }
+
     /// The next own arrival enters. None exactly where `window` own arrivals are out, or none is left to
     /// enter; then nothing changes.
     pub fn enter(&mut self) -> Option<u32>
@@ -77,13 +97,7 @@ impl HomeExit {
             ⊎ (self.old.arrivals ≤ own_arrival self.old self.old.entered)) }
         ensures kept { IfNone result (self.new ≡ self.old) }
     {
-        if self.entered == self.left + self.window {
-            return None;
-        }
-        let next = self.pipe + self.entered * self.pipelines;
-        if next >= self.arrivals {
-            return None;
-        }
+        let next = self.next()?;
         self.entered += 1;
         Some(next)
     }
@@ -99,6 +113,14 @@ impl HomeExit {
         let from = k * self.fields as usize;
         write(&mut self.words, from, fields);
         self.left = leading_from(&self.home, self.left);
+    }
+
+    /// Whether an arrival is an own one that is out: it has entered, and isn't home.
+    pub fn is_away(&self, t: u32) -> bool
+        ensures { IsTrue result ↔ IsAway self.now t }
+    {
+        let k = t / self.pipelines;
+        t % self.pipelines == self.pipe && k < self.entered && !self.home[k as usize]
     }
 
     /// How many own arrivals have entered.
@@ -162,9 +184,15 @@ mod tests {
     #[test]
     fn pipe_1_of_2_with_a_window_of_one(rt: HostRuntime) -> Result<(), Fail> {
         let mut exit = HomeExit::new(rt.alloc(), 1, 2, 5, 1, 1)?;
+        assert_eq!(rt; exit.next(), Some(1));
+        assert_eq!(rt; exit.is_away(1), false, "it hasn't entered");
         assert_eq!(rt; exit.enter(), Some(1));
-        assert_eq!(rt; exit.enter(), None, "one is out");
+        assert_eq!(rt; exit.next(), None, "one is out");
+        assert_eq!(rt; exit.enter(), None);
+        assert_eq!(rt; exit.is_away(1), true);
+        assert_eq!(rt; exit.is_away(0), false, "it is no own one");
         exit.home(1, &[7]);
+        assert_eq!(rt; exit.is_away(1), false, "it is home");
         assert_eq!(rt; exit.enter(), Some(3));
         exit.home(3, &[8]);
         assert_eq!(rt; exit.enter(), None, "none is left");
