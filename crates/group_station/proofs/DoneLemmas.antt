@@ -1,5 +1,5 @@
 -- When all that belongs to the present round is done.
-use Rattle.std.proofs.Common.{◌≡◌, ℕ, ◌+◌, ◌-◌, ◌*◌, ◌<◌, ◌≤◌, true, false, List, [], ◌∷◌, length, slice_index, Option, Some, None, IsSome, is_some, refl, sym, subst, arith, le-div_iff_mul-le, div-le_self, leb, le-leb, leb-true, IsTrue, ◌↔◌}
+use Rattle.std.proofs.Common.{◌≡◌, ℕ, ◌+◌, ◌-◌, ◌*◌, ◌<◌, ◌≤◌, Bool, true, false, not, List, [], ◌∷◌, length, slice_index, Option, Some, None, IsSome, is_some, refl, sym, subst, arith, le-div_iff_mul-le, div-le_self, leb, le-leb, leb-true, IsTrue, ◌↔◌}
 use Rattle.std.specs.List.{All}
 use Rattle.std.proofs.lemmas.List.Elements.{All-nil, All-cons, All-head, All-weaker}
 use Rattle.code_forms.specs.declared.unit.Unit.{Unit as PlacedUnit}
@@ -7,7 +7,7 @@ use Rattle.place_queue.specs.declared.place.Place.{Place}
 use Rattle.place_queue.specs.PlaceList.{PlaceList, IsPlaceList, IsInOrder, IsLeast, IsNext, HasNone}
 use Rattle.run_laws.specs.Run.{arrivals}
 use Rattle.group_station.specs.Station.{Station, site, width, in_hand, OwnsIn, round_end, IsStation, IsAwaited}
-use Rattle.group_station.specs.Steps.{IsRoundDone}
+use Rattle.group_station.specs.Steps.{HasAllUnits, IsRoundDone}
 use Rattle.group_station.proofs.LawLemmas.{some_arrivals}
 
 -- ---- rounds are small numbers
@@ -98,3 +98,13 @@ pub none_at : (s now : Station) (awaited : Option ℕ) (least n : ℕ) → s ≡
     → n ≡ round_end s → n ≤ least → HasNone s.queue.floors s.queue.unserved → IsTrue true ↔ IsRoundDone now
 none_at s now awaited least n e station h none lowest is above none_next =
     (λ yes'. subst (λ (r : Station). IsRoundDone r) e (done_none s awaited least n station.of_run.listed h none lowest is above none_next), λ done. refl)
+
+-- whether all own units are in hand, as the awaited one tells
+here_by : (s : Station) (awaited : Option ℕ) (b : Bool) → IsAwaited s awaited → is_some awaited ≡ not b → IsTrue b ↔ HasAllUnits s
+here_by s None true h is = ((λ yes' u within owns. some_here (in_hand s u) (λ away. let told = h.told u within owns away in absurd (cc))), λ all. refl)
+here_by s None false h is = absurd (cc)
+here_by s (Some u) true h is = absurd (cc)
+here_by s (Some u) false h is = ((λ yes'. absurd (cc)), λ all. (let was = h.away u refl in let here = all u was.0 was.1 in let none : in_hand s u ≡ None = was.2 in absurd (cc)))
+
+pub all_here : (s now : Station) (awaited : Option ℕ) (b : Bool) → s ≡ now → IsAwaited s awaited → is_some awaited ≡ not b → IsTrue b ↔ HasAllUnits now
+all_here s now awaited b e h is = subst (λ (r : Station). IsTrue b ↔ HasAllUnits r) e (here_by s awaited b h is)

@@ -6,12 +6,8 @@ use Rattle.code_forms.specs.Staged.{Staged, group_start, block_start}
 use Rattle.code_forms.specs.StagedMeaning.{Leads, IsPlaced, Serves, Touches}
 use Rattle.place_queue.specs.PlaceList.{PlaceList}
 use Rattle.shard_rounds.specs.declared.plan.Move.{Move}
-use Rattle.run_laws.specs.Run.{Run}
+use Rattle.run_laws.specs.Run.{run_of}
 use Rattle.group_station.specs.Station.{Station, held}
-
--- the run of code, headers and settings
-abbrev pub run_of : Staged → List (List ℤ) → Settings → Run
-run_of code headers settings = record { code = code; headers = headers; settings = settings }
 
 abbrev pub seen : Staged → List (List ℤ) → Settings → ℕ → ℕ → PlaceList → ℕ → List (Option PlacedUnit) → List ℕ → Station
 seen code headers settings pipe group queue round hand served = record {

@@ -70,12 +70,16 @@ pub record AreOwnersFor (s : Station) (o : OwnerTable) : Type 0 where
   pub lawful : AreLawful s.run o.plans
   pub known : s.round ≤ length o.plans
 
+-- each unit that the pipe owns in the present round is in hand
+abbrev pub HasAllUnits : Station → Type 0
+HasAllUnits s = (u : ℕ) → u < width s → OwnsIn s s.round u → IsSome (in_hand s u)
+
 -- all that belongs to the present round is done: every floor is past it, no place of it is unserved, and each unit that the
 -- pipe owns in it is in hand
 pub record IsRoundDone (s : Station) : Type 0 where
   pub floors : EachIndex s.queue.floors (λ source. round_end s ≤ slice_index s.queue.floors source)
   pub served : All (λ (p : Place). round_end s ≤ p.t) s.queue.unserved
-  pub units : (u : ℕ) → u < width s → OwnsIn s s.round u → IsSome (in_hand s u)
+  pub units : HasAllUnits s
 
 -- the move of a group, if there is one
 abbrev pub move_in : ℕ → List Move → Option Move
@@ -89,6 +93,11 @@ given_by pipe (Some m) = if m.giver == pipe then Some m else None
 -- the move by which a unit leaves at the end of the round, if there is one
 abbrev pub leaving : Station → List Move → Option Move
 leaving s moves = given_by s.pipe (move_in s.group moves)
+
+-- the pipe that gets it
+abbrev pub taker_of : Option Move → Option ℕ
+taker_of None = None
+taker_of (Some m) = Some m.taker
 
 -- the station in the next round, in which such a unit is no longer in hand
 abbrev pub after_leaving : Station → Option Move → Station

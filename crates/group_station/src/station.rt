@@ -5,10 +5,10 @@ ghost use Rattle.code_forms.specs.Staged.{Fits, group_start, block_start, group_
 ghost use Rattle.place_queue.specs.declared.place.Place.{Place as PlaceHere};
 ghost use Rattle.place_queue.specs.PlaceList.{announced, count_of};
 ghost use Rattle.shard_rounds.specs.Rounds.{first_owner};
-ghost use Rattle.run_laws.specs.Run.{arrivals, round_of, place_of, values_of, touched_of};
+ghost use Rattle.run_laws.specs.Run.{run_of, arrivals, round_of, place_of, values_of, touched_of};
 ghost use Rattle.group_station.specs.Station.{IsStation, OwnsIn, IsNextOwn, in_hand, held, width};
-ghost use Rattle.group_station.specs.Steps.{first_station, first_unit, first_hand, IsGivenUnit, IsReady, after_serving, AreOwnersFor, IsRoundDone, move_in, leaving, after_leaving, departing, next_moves, IsUnitFor, CanTake, after_taking};
-ghost use Rattle.group_station.specs.Holding.{run_of, ServesOne, given_hand, given_unit, awaited_by, awaited_after};
+ghost use Rattle.group_station.specs.Steps.{first_station, first_unit, first_hand, IsGivenUnit, IsReady, after_serving, AreOwnersFor, HasAllUnits, IsRoundDone, move_in, leaving, taker_of, after_leaving, taker_of, departing, next_moves, IsUnitFor, CanTake, after_taking};
+ghost use Rattle.group_station.specs.Holding.{ServesOne, given_hand, given_unit, awaited_by, awaited_after};
 
 use capture_io::Capture;
 use code_forms::{StagedCode, Unit};
@@ -73,6 +73,14 @@ impl<'a> Station<'a> {
             counts: vec![in alloc; 0; code.units(group) as usize]?,
             awaited: None,
         })
+    }
+
+    /// The pipe at which it stands.
+    pub fn pipe(&self) -> u32
+        ensures pipe { result ≡ self.now.pipe }
+        ensures laws { IsStation self.now }
+    {
+        self.pipe
     }
 
     /// The unit of an arrival's place where it is given here: where the pipe owns it in the arrival's round.
@@ -183,6 +191,22 @@ impl<'a> Station<'a> {
         }
     }
 
+    /// The pipe to which a unit goes when the present round is left, by the plan that these owners know next. None
+    /// exactly where no unit goes. Takes no memory.
+    pub fn taker(&self, owners: &Owners) -> Option<u32>
+        requires owners { AreOwnersFor self.now owners.now }
+        requires next { self.now.round < length owners.now.plans }
+        ensures taker { result ≡ taker_of (leaving self.now (next_moves self.now owners.now)) }
+        ensures laws { IsStation self.now }
+    {
+        let found = move_in(owners.plan(self.round), self.group)?;
+        if found.giver == self.pipe {
+            Some(found.taker)
+        } else {
+            None
+        }
+    }
+
     /// Takes a unit into hand for a round. It comes back where it is in hand already, or where that isn't the
     /// first known round from the present one on in which the pipe owns it. Takes no memory.
     pub fn take(&mut self, from: u32, unit: Unit, owners: &Owners) -> Result<(), Unit>
@@ -200,6 +224,14 @@ impl<'a> Station<'a> {
         self.awaited = still_awaited(self.awaited, from, self.round);
         put_unit(&mut self.hand, unit);
         Ok(())
+    }
+
+    /// Whether each unit that the pipe owns in the present round is in hand. Takes no memory.
+    pub fn has_all(&self) -> bool
+        ensures all { IsTrue result ↔ HasAllUnits self.now }
+        ensures laws { IsStation self.now }
+    {
+        self.awaited.is_none()
     }
 
     // Whether a round in which the pipe owns the unit is the first known one from the present one on.

@@ -1,5 +1,5 @@
 use Rattle.std.proofs.Common.{◌≡◌, replicate, rules}
-use Rattle.group_station.specs.Holding.{run_of}
+use Rattle.run_laws.specs.Run.{run_of}
 use Rattle.group_station.proofs.StartLemmas.{started_at}
 use Rattle.group_station.proofs.station.Station.new.Goals as goal
 
