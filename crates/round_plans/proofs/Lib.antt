@@ -1,0 +1,4 @@
+pub mod ChoicePlans
+pub mod CountLemmas
+pub mod ArrivalLemmas
+pub mod PlannerLemmas
