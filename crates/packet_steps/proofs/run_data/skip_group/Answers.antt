@@ -1,0 +1,13 @@
+use Rattle.std.proofs.Common.{◌≡◌, ◌+◌, ℤ, List, length, sym, ap, subst, ◌∙◌}
+use Rattle.code_forms.specs.Staged.{Fits, block_start, group_start}
+use Rattle.code_forms.specs.StagedMeaning.{staged_values}
+use Rattle.pipe_parts.specs.EnvWords.{refilled}
+use Rattle.packet_steps.proofs.run_data.skip_group.Goals as goal
+
+pub returns : goal.returns
+returns c = λ header units long held fits.
+    let size : length c.skip.new.env ≡ length c.args.env.now = c.skip.auto.env ∙ ap length c.words_mut.ensures.words in
+    let same : refilled c.args.env.now c.skip.new.env ≡ c.skip.new.env = c.words_mut.ensures.whole c.skip.new.env size in
+    subst (λ (e : List ℤ). Fits c.args.code.now (staged_values c.args.code.now units header) (block_start c.args.code.now (c.args.g + 1)) e) (sym same)
+    (c.skip.ensures header units long held
+    (subst (λ (e : List ℤ). Fits c.args.code.now (staged_values c.args.code.now units header) (group_start c.args.code.now c.args.g) e) (sym c.words_mut.ensures.words) fits))
