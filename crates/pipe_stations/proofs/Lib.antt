@@ -1,0 +1,4 @@
+pub mod RowLemmas
+pub mod StartLemmas
+pub mod AnnounceLemmas
+pub mod FinishLemmas
