@@ -1,0 +1,11 @@
+pub mod PacketLemmas
+pub mod MessageLemmas
+pub mod KeepLemmas
+pub mod EnterLemmas
+pub mod TurnLemmas
+pub mod StartLemmas
+pub mod StepLemmas
+pub mod RowLemmas
+pub mod LeaveLemmas
+pub mod ServeLemmas
+pub mod OfferLemmas
