@@ -60,6 +60,12 @@ pub array_at : (c : Staged) → IsStaged c → (a : ℕ) → a < length c.arrays
     → (1 ≤ flat_length c.arrays a) × (flat_length c.arrays a ≤ 65536) × ((t : Bool) × (is_life t (events (0 + a) c.instrs) ≡ true))
 array_at c staged a below = array_fits_at c.instrs (after_all (header_slots c.fields) c.instrs) 0 c.arrays a below (arrays_fitting c staged)
 
+-- there are few arrays
+pub few_arrays : (c : Staged) → IsStaged c → length c.arrays ≤ 16
+few_arrays c staged =
+    let few : nat_le (length c.arrays) 16 ≡ true = and_front (nat_le (length c.arrays) 16) _ (and_back (nat_le c.fields 32) _ (limited c staged)) in
+    grind (arith, nat_tests, few)
+
 -- there are few fields
 pub few_fields : (c : Staged) → IsStaged c → c.fields ≤ 32
 few_fields c staged =

@@ -1,7 +1,7 @@
 //! How a group is served on the cells of a unit.
 ghost use Rattle.std.specs.Prelude.{◌≡◌, ◌+◌, ◌<◌, length, fold, slice_set, replicate, false};
 ghost use Rattle.mp5_words.specs.Cells.{bits};
-ghost use Rattle.code_forms.specs.Staged.{group_at, group_start, block_start, guards_of};
+ghost use Rattle.code_forms.specs.Staged.{group_at, group_start, block_start, guards_of, IsGroup};
 ghost use Rattle.code_forms.specs.StagedMeaning.{is_open, array_set, Leads, IsPlaced, Serves, Touches};
 ghost use Rattle.code_forms.specs.Spots.{spot_store, mark_open};
 
@@ -33,7 +33,8 @@ impl StagedCode {
     /// The set of the arrays of a group, bit `a` for array `a`.
     pub fn arrays(&self, g: u32) -> u16
         requires { g < length self.now.groups }
-        ensures { result ≡ array_set (group_at self.now g).arrays }
+        ensures set { result ≡ array_set (group_at self.now g).arrays }
+        ensures laws { IsGroup self.now g }
     {
         set_of_arrays(self.group(g).arrays.as_slice())
     }

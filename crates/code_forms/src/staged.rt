@@ -113,9 +113,10 @@ impl StagedCode {
         self.group(g).depth
     }
 
-    /// How many arrays there are, in groups or not.
+    /// How many arrays there are, in groups or not: at most 16.
     pub fn array_count(&self) -> u32
-        ensures { result ≡ length self.now.arrays }
+        ensures count { result ≡ length self.now.arrays }
+        ensures few { length self.now.arrays ≤ 16 }
     {
         self.arrays.len() as u32
     }
