@@ -9,6 +9,7 @@ ghost use Rattle.egress_order.specs.OwnPackets.{left_count};
 ghost use Rattle.run_laws.specs.Run.{run_of, arrivals, home_of};
 ghost use Rattle.run_laws.specs.LawfulPlans.{AreLawful};
 ghost use Rattle.group_station.specs.Station.{IsStation, in_hand, width};
+ghost use Rattle.pipe_stations.specs.Row.{IsRow};
 ghost use Rattle.pipe_stations.specs.RowSteps.{IsStationFinished};
 ghost use Rattle.pipe_messages.specs.Messages.{IsMessage};
 ghost use Rattle.pipe_worker.specs.Pipe.{first_pipe, waiting, station, outbox_room};
@@ -201,7 +202,9 @@ impl<'a> Pipe<'a> {
             (left_count self.now.door.exit ≡ length self.now.door.exit.home)
             × All IsStationFinished self.now.row.stations }
         ensures laws { IsPipe self.now }
+        ensures row { IsRow self.now.row }
     {
+        prove!(self.row.len() <= 16);
         self.door.is_empty() && self.row.is_finished()
     }
 }

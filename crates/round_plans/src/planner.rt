@@ -62,7 +62,8 @@ impl<'a> Planner<'a> {
 
     /// Whether all plans are decided: there is one before each round but the first.
     pub fn are_all(&self) -> bool
-        ensures { IsTrue result ↔ (length self.now.plans ≡ last_round self.now.run) }
+        ensures all { IsTrue result ↔ (length self.now.plans ≡ last_round self.now.run) }
+        ensures laws { AreLawful self.now.run self.now.plans }
     {
         self.owners.applied() == self.run.last_round()
     }
