@@ -1,0 +1,6 @@
+pub mod MessageLemmas
+pub mod LaneLemmas
+pub mod HearLemmas
+pub mod TellLemmas
+pub mod TurnLemmas
+pub mod DriverLemmas

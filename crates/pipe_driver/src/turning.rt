@@ -1,0 +1,28 @@
+//! Own events, and how many pipes there are.
+ghost use Rattle.std.specs.Prelude.{◌≡◌};
+ghost use Rattle.pipe_driver.specs.Driver.{HasQueues};
+ghost use Rattle.pipe_driver.specs.Turning.{Turns};
+
+use pipe_worker::Pipe;
+
+// How many pipes there are, of which there are few.
+pub(crate) fn pipes(pipe: &Pipe<'_>, lanes: usize) -> u32
+    requires { lanes ≡ pipe.now.run.settings.pipelines }
+    ensures { result ≡ lanes }
+{
+    // a pipe's laws bound how many there are
+    prove!(pipe.exit().entered() == pipe.entered());
+    lanes as u32
+}
+
+// Does one own event, if one is ready.
+pub(crate) fn turn(pipe: &mut Pipe<'_>)
+    requires { HasQueues pipe.old }
+    ensures turns { Turns pipe.old pipe.new }
+    ensures queues { HasQueues pipe.new }
+{
+    // a pipe's laws, before the event and after it
+    prove!(pipe.exit().entered() == pipe.entered());
+    let _ = pipe.turn();
+    prove!(pipe.exit().entered() == pipe.entered());
+}
