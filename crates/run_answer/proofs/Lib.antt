@@ -1,0 +1,4 @@
+pub mod PacketsLemmas
+pub mod EntriesLemmas
+pub mod CountsLemmas
+pub mod CellsLemmas
