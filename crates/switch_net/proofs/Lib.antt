@@ -1,0 +1,5 @@
+pub mod DriveLemmas
+pub mod EndLemmas
+pub mod MoveLemmas
+pub mod MarkLemmas
+pub mod LaneLemmas

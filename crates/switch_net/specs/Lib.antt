@@ -1,0 +1,4 @@
+pub mod Answer
+pub mod Building
+pub mod Driving
+pub mod Marks
