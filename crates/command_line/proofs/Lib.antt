@@ -1,0 +1,3 @@
+pub mod NumberLemmas
+mod OneFault
+pub mod WordLemmas
