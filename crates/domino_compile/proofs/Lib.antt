@@ -28,3 +28,4 @@ pub mod CompiledLemmas
 pub mod CheckDecides
 pub mod AcceptedLemmas
 pub mod MeaningRun
+pub mod EndCells

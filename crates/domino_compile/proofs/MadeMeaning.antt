@@ -34,7 +34,7 @@ use Rattle.code_forms.proofs.UnitLemmas.{has_units}
 use Rattle.domino_compile.specs.MeaningRun.{AreWide, RunsAsSource}
 use Rattle.domino_compile.proofs.MeaningGroups.{group_has}
 use Rattle.domino_compile.proofs.MeaningRun.{runs}
-use Rattle.domino_compile.proofs.MeaningStart.{units_start}
+use Rattle.domino_compile.proofs.MeaningStart.{row_is, units_start}
 
 -- the flat code means the lines on words, whatever is loaded
 abbrev pub MeansWords : GuardCode → FlatCode → Type 0
@@ -105,7 +105,7 @@ module _ (p : Program) (g : GuardCode) (f : FlatCode) (is : IsCodeOf p g f) wher
     pub made_runs : KeepsMeaning p g.arrays g.lines → MeansWords g f → IsStaged c → PlacesAreIndexes c → NoneTouched c → (headers : List (List ℤ)) → AreWide c headers → RunsAsSource p c headers
     made_runs keeps means staged places unplaced headers wide =
         let whole : IsStagedOf p g c = is_staged_of keeps means staged places unplaced in
-        runs p c (λ header long. has_units c header staged places long) (λ a h e. (group_has c a h e).0) (means_source p g c whole) headers wide (units_start p g c whole)
+        runs p c (λ header long. has_units c header staged places long) (λ a h e. (group_has c a h e).0) (means_source p g c whole) headers wide (units_start p g c whole) (row_is p g c whole)
 
     -- ---- its fields and arrays
 

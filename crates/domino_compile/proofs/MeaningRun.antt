@@ -1,20 +1,19 @@
 -- Staged code on headers, one after another, ends as the sequential run does.
-use Rattle.std.proofs.Common.{◌≡◌, ℕ, zero, suc, ◌+◌, ◌<◌, ◌≤◌, ℤ, pos, Bool, true, false, if◌then◌else◌, List, [], ◌∷◌, ◌++◌, length, map, take, replicate, Option, None, Some, refl, sym, ap, subst, ◌∙◌, arith}
-use Rattle.std.specs.Prelude.{All}
-use Rattle.std.specs.List.{fold, slice_index_or}
-use Rattle.mp5_words.specs.Cells.{word_at}
+use Rattle.std.proofs.Common.{◌≡◌, ℕ, zero, suc, ◌<◌, ℤ, Bool, false, if◌then◌else◌, List, [], ◌∷◌, length, map, replicate, Option, None, Some, refl, sym, ap, subst, ◌∙◌, arith}
+use Rattle.std.specs.List.{slice_index_or}
+use Rattle.mp5_words.specs.Cells.{word_at, cells_at}
 use Rattle.mp5_words.specs.Domain.{Loads}
 use Rattle.domino_tree.specs.declared.program.Program.{Program}
 use Rattle.domino_tree.specs.Value.{HasCells, Array, names_of}
 use Rattle.domino_tree.specs.Execution.{State, exec}
 use Rattle.domino_tree.specs.Sequential as sequential
 use Rattle.domino_tree.proofs.ShapeLemmas.{exec_has_cells, start_has_cells}
+use Rattle.code_forms.specs.FlatMeaning.{flat_length}
 use Rattle.code_forms.specs.Staged.{Staged, group_at, group_of, unit_count, unit_cell}
-use Rattle.code_forms.specs.StagedMeaning.{Units, is_touching, place, is_place, placed_word, loaded_word, staged_loads, staged_values, code_values, last_words, cells_after, units_after, HasUnits}
-use Rattle.code_forms.proofs.UnitLemmas.{has_units}
+use Rattle.code_forms.specs.StagedMeaning.{Units, is_touching, place, is_place, placed_word, loaded_word, staged_values, code_values, last_words, cells_after, units_after, start_of, HasUnits}
 use Rattle.branch_removal.specs.Kept.{untouched}
 use Rattle.domino_compile.specs.MeaningKept.{units_of, EndsAsSource, MeansSource}
-use Rattle.code_forms.specs.OverHeaders.{start_units, units_over, header_in, values_at}
+use Rattle.code_forms.specs.OverHeaders.{start_units, units_over, values_at}
 use Rattle.domino_compile.specs.MeaningRun.{AreWide, RunsAsSource}
 
 -- before an execution no array is touched, by either way to say it
@@ -77,6 +76,7 @@ module _ (p : Program) (c : Staged) (placed : (header : List ℤ) → length hea
     pub touched : (a : ℕ) → is_touching c (staged_values c units header) a ≡ slice_index_or (done header cells).touched a false
     pub next : Agree (units_after c units header) (units_of c (done header cells).store.cells)
     pub has : HasCells (names_of p) (done header cells).store.cells
+    pub kept : (a : ℕ) → group_of c a ≡ None → cells_at (done header cells).store.cells a ≡ cells_at cells a
 
   steps : (header : List ℤ) (cells : List (List ℤ)) (units : Units) → length header ≡ c.fields → HasCells (names_of p) cells → Agree units (units_of c cells) → Steps header cells units
   steps header cells units long has agree =
@@ -87,6 +87,7 @@ module _ (p : Program) (c : Staged) (placed : (header : List ℤ) → length hea
         touched = λ a. ap (λ vals. is_touching c vals a) same ∙ end.touched a;
         next = λ g u below less. after_same header units (units_of c cells) long agree g u below less ∙ end.units g u below less;
         has = exec_has_cells (names_of p) p.function.body (record { store = record { fields = header; cells = cells }; touched = sequential.untouched (names_of p) }) has;
+        kept = λ a none. (end.ungrouped a none).1;
       }
 
   pub units_end : (headers : List (List ℤ)) (cells : List (List ℤ)) (units : Units) → AreWide c headers → HasCells (names_of p) cells → Agree units (units_of c cells)
@@ -112,9 +113,17 @@ module _ (p : Program) (c : Staged) (placed : (header : List ℤ) → length hea
       let s : Steps h cells units = steps h cells units (front h hs wide) has agree in
       touched_end hs (done h cells).store.cells (units_after c units h) (rest h hs wide) s.has s.next t a (omega (arith, less))
 
+  -- an array of no group keeps its cells
+  pub kept_end : (headers : List (List ℤ)) (cells : List (List ℤ)) → AreWide c headers → HasCells (names_of p) cells → (a : ℕ) → group_of c a ≡ None → cells_at (run cells headers).cells a ≡ cells_at cells a
+  kept_end [] cells wide has a none = refl
+  kept_end (h ∷ hs) cells wide has a none =
+      let s : Steps h cells (units_of c cells) = steps h cells (units_of c cells) (front h hs wide) has (λ g u below less. refl) in
+      kept_end hs (done h cells).store.cells (rest h hs wide) s.has a none ∙ s.kept a none
+
   -- from the start cells on
-  pub runs : (headers : List (List ℤ)) → AreWide c headers → ((g u : ℕ) → g < length c.groups → u < unit_count c (group_at c g) → units_of c (sequential.start_cells (names_of p)) g u ≡ start_units c g u) → RunsAsSource p c headers
-  runs headers wide start =
+  pub runs : (headers : List (List ℤ)) → AreWide c headers → ((g u : ℕ) → g < length c.groups → u < unit_count c (group_at c g) → units_of c (sequential.start_cells (names_of p)) g u ≡ start_units c g u)
+      → ((a : ℕ) → a < length c.arrays → cells_at (sequential.start_cells (names_of p)) a ≡ replicate (flat_length c.arrays a) (start_of c.arrays a)) → RunsAsSource p c headers
+  runs headers wide start rows =
       let cells : List (List ℤ) = sequential.start_cells (names_of p) in
       let has : HasCells (names_of p) cells = start_has_cells (names_of p) in
       let agree : Agree (start_units c) (units_of c cells) = λ g u below less. sym (start g u below less) in
@@ -122,4 +131,5 @@ module _ (p : Program) (c : Staged) (placed : (header : List ℤ) → length hea
         packets = packets_end headers cells (start_units c) wide has agree;
         touched = touched_end headers cells (start_units c) wide has agree;
         units = units_end headers cells (start_units c) wide has agree;
+        rest = λ a below none. kept_end headers cells wide has a none ∙ rows a below;
       }

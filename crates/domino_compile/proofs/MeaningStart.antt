@@ -39,7 +39,8 @@ word_of_all (suc n) zero x within = refl
 word_of_all (suc n) (suc i) x within = word_of_all n i x (omega (arith, within))
 
 module _ (p : Program) (g : GuardCode) (c : Staged) (is : IsStagedOf p g c) where
-  row_is : (a : ℕ) → a < length c.arrays → cells_at (sequential.start_cells (names_of p)) a ≡ replicate (flat_length c.arrays a) (start_of c.arrays a)
+  -- each array starts with its start value in each cell
+  pub row_is : (a : ℕ) → a < length c.arrays → cells_at (sequential.start_cells (names_of p)) a ≡ replicate (flat_length c.arrays a) (start_of c.arrays a)
   row_is a below = start_row (names_of p).arrays a (subst (λ n. a < n) many below) ∙ (λ i. replicate (long i) (start i)) where
     long : slice_index_or (map (λ (d : Array). d.length) (names_of p).arrays) a 1 ≡ flat_length c.arrays a
     long = sym (ap (λ l. length_at l a) is.shapes ∙ length_same p a) ∙ sym (ap (λ l. slice_index_or l a 1) is.arrays.lengths)
