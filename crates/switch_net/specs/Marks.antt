@@ -26,7 +26,8 @@ pub record Runs : Type 0 where
   pub count : ℕ
   pub last : Option Mark
 
--- a network was run; a count that stands at its type's end counts as risen
+-- a network was run; a count that stands at its type's end counts as risen, and none falls
 pub record HasRun (mark : Mark) (old new : Runs) : Type 0 where
+  pub later : old.count ≤ new.count
   pub rose : min (old.count + 1) (2 ^ 64 - 1) ≤ new.count
   pub last : new.last ≡ Some mark
