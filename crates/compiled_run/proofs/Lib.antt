@@ -1,0 +1,5 @@
+pub mod RowLemmas
+pub mod GroupLemmas
+pub mod PacketLemmas
+pub mod CellLemmas
+pub mod AnswerLemmas
