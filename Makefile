@@ -1,4 +1,4 @@
-# make run      compiles the program without proving it, and runs PROGRAM on CAPTURE in a MODE: about a minute
+# make run      compiles the program without proving it, and runs PROGRAM on CAPTURE in a MODE with OPTIONS: about a minute
 # make build    proves and builds the program, crates/mp5/out/mp5
 # make install  puts the program and its manual page below PREFIX, and builds the program first where it isn't there
 # make test     is the gate: every proof, edit, test and program
@@ -6,6 +6,7 @@
 MODE = one
 PROGRAM = examples/count.domino
 CAPTURE = examples/count.pcap
+OPTIONS =
 PREFIX = /usr/local
 
 .PHONY: run build install test
@@ -13,7 +14,7 @@ PREFIX = /usr/local
 run:
 	@cd crates/mp5 && rt try \
 	  --data transaction.domino="$(abspath $(PROGRAM))" --data packets.pcap="$(abspath $(CAPTURE))" \
-	  -- $(MODE) transaction.domino packets.pcap
+	  -- $(MODE) transaction.domino packets.pcap $(OPTIONS)
 
 build: crates/mp5/out/mp5
 

@@ -1,11 +1,10 @@
 -- The text of a report.
-use Rattle.std.specs.Prelude.{◌≡◌, ℕ, ◌+◌, ℤ, if◌then◌else◌, List, [], ◌∷◌, ◌++◌, map, length, codes, decimal}
+use Rattle.std.specs.Prelude.{ℕ, ◌+◌, ℤ, if◌then◌else◌, List, [], ◌∷◌, ◌++◌, map, length, take, drop, codes, decimal}
 use Rattle.std.specs.Fmt.{signed_decimal}
-use Rattle.std.specs.List.{flat_map}
+use Rattle.std.specs.List.{flat_map, sum_by}
 use Rattle.std.specs.Ordering.{int_eq}
 use Rattle.capture_io.specs.Rows.{rows}
 use Rattle.domino_tree.specs.declared.program.Program.{Program}
-use Rattle.domino_tree.specs.Value.{names_of, cell_counts}
 use Rattle.domino_tree.specs.Sequential.{one}
 use Rattle.domino_names.specs.declared.infos.ArrayInfo.{ArrayInfo}
 use Rattle.domino_names.specs.Infos.{infos_of}
@@ -56,13 +55,14 @@ register_lines [] cells = []
 register_lines (i ∷ infos) [] = []
 register_lines (i ∷ infos) (c ∷ cells) = cell_lines i 0 c ++ register_lines infos cells
 
--- the arrays have as many cells as the program declares
-abbrev pub AreDeclared : Program → List ArrayInfo → Type 0
-AreDeclared p infos = cell_counts (names_of p) ≡ map (λ (i : ArrayInfo). i.length) infos
+-- how many cells the arrays have in all
+abbrev pub cell_count : List ArrayInfo → ℕ
+cell_count = sum_by (λ (i : ArrayInfo). i.length)
 
--- each array has as many cells as it is declared with
-abbrev pub HasCells : List ArrayInfo → List (List ℤ) → Type 0
-HasCells infos cells = map (λ (c : List ℤ). length c) cells ≡ map (λ (i : ArrayInfo). i.length) infos
+-- the cells of each array, where they stand one array after another in one list of words
+abbrev pub cells_in : List ArrayInfo → List ℤ → List (List ℤ)
+cells_in [] words = []
+cells_in (i ∷ infos) words = take i.length words ∷ cells_in infos (drop i.length words)
 
 -- ---- the whole
 
@@ -82,9 +82,9 @@ text_of = flat_map (λ line. line)
 abbrev pub run_text : List (List ℕ) → List ArrayInfo → List (List ℤ) → List (List ℤ) → ℕ → List ℕ
 run_text labels infos packets cells n = text_of (run_lines labels infos packets cells n)
 
--- the same, where the packets stand one after another in one list of words
-abbrev pub table_text : List (List ℕ) → List ArrayInfo → ℕ → List ℤ → List (List ℤ) → List ℕ
-table_text labels infos n words cells = run_text labels infos (rows n (length labels) words) cells n
+-- the same, where the packets stand one after another in one list of words, and so do the cells of the arrays
+abbrev pub table_text : List (List ℕ) → List ArrayInfo → ℕ → List ℤ → List ℤ → List ℕ
+table_text labels infos n words cells = run_text labels infos (rows n (length labels) words) (cells_in infos cells) n
 
 -- the lines of the report of the sequential run over these headers
 abbrev pub report_lines : Program → List (List ℤ) → List (List ℕ)

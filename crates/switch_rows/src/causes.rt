@@ -4,8 +4,9 @@ use crate::fixture::{
     store_of, text_of, words_of,
 };
 use std::alloc::{AllocError, Global};
+use std::sync::Wait;
 use std::test::Fail;
-use switch_runner::{MemoryStore, NoFabric, ProgramFault, Status, SureSink, SureStore, switch_top};
+use switch_runner::{MemoryStore, ProgramFault, Status, SureSink, SureStore, Threads, switch_top};
 
 // A store of `COUNT` as `p` and three packets as `c`.
 fn counting(alloc: Global, fails: &[u64]) -> Result<MemoryStore, AllocError> {
@@ -42,14 +43,14 @@ fn words(rt: HostRuntime) -> Result<(), Fail> {
         for line in lines.split('|') {
             let mut store = counting(alloc, &[1])?;
             let (out, err) = (sink(alloc, 99, &[])?, sink(alloc, 99, &[])?);
-            let ended = call(alloc, line, &mut store, out, err)?;
+            let ended = call(&rt, alloc, line, &mut store, out, err)?;
             assert_ended(&rt, &ended, code, "", line);
         }
     }
     for line in "mp5 one p c|-x one p c|gen:1 one p c| one p c".split('|') {
         let mut store = counting(alloc, &[])?;
         let (taken, err) = (sink(alloc, 99, &[])?, sink(alloc, 99, &[])?);
-        let ended = call(alloc, line, &mut store, taken, err)?;
+        let ended = call(&rt, alloc, line, &mut store, taken, err)?;
         assert_ended(&rt, &ended, 0, COUNTED, line);
     }
     // A program that isn't listed is empty, so no read of a capture follows. The first byte of the capture
@@ -74,7 +75,7 @@ fn words(rt: HostRuntime) -> Result<(), Fail> {
         for line in lines.split('|') {
             let mut store = counting(alloc, fails)?;
             let (taken, err) = (sink(alloc, 99, &[])?, sink(alloc, 99, &[])?);
-            let ended = call(alloc, line, &mut store, taken, err)?;
+            let ended = call(&rt, alloc, line, &mut store, taken, err)?;
             assert_refused(&rt, alloc, &ended, code, refusal, line)?;
         }
     }
@@ -95,7 +96,7 @@ fn calls_for_help(rt: HostRuntime) -> Result<(), Fail> {
     ] {
         let mut store = counting(alloc, &[1])?;
         let (out, err) = (sink(alloc, 99, &[])?, sink(alloc, 99, &[])?);
-        let ended = call(alloc, line, &mut store, out, err)?;
+        let ended = call(&rt, alloc, line, &mut store, out, err)?;
         assert_eq!(rt; ended.status.code(), 1, "at {line}");
         assert_eq!(rt; text_of(&ended.out), "", "at {line}");
         assert!(rt; text_of(&ended.err).starts_with("Runs a packet transaction over"));
@@ -115,7 +116,7 @@ fn modes_to_come(rt: HostRuntime) -> Result<(), Fail> {
     ] {
         let mut store = counting(alloc, &[1])?;
         let (out, err) = (sink(alloc, 99, &[])?, sink(alloc, 99, &[])?);
-        let ended = call(alloc, line, &mut store, out, err)?;
+        let ended = call(&rt, alloc, line, &mut store, out, err)?;
         assert_ended(&rt, &ended, 2, "", line);
     }
     Ok(())
@@ -129,7 +130,7 @@ fn reads_that_fail(rt: HostRuntime) -> Result<(), Fail> {
     for failing in 1..40u64 {
         let mut store = counting(alloc, &[failing])?;
         let (out, err) = (sink(alloc, 99, &[])?, sink(alloc, 99, &[])?);
-        let ended = call(alloc, "mp5 one p c", &mut store, out, err)?;
+        let ended = call(&rt, alloc, "mp5 one p c", &mut store, out, err)?;
         let at = format!(in alloc; "read {failing}")?;
         if matches!(ended.status, Status::ReadFault) {
             assert_eq!(rt; reached, failing - 1);
@@ -150,7 +151,7 @@ fn writes_that_fail(rt: HostRuntime) -> Result<(), Fail> {
     for failing in 1..13u64 {
         let mut store = counting(alloc, &[])?;
         let (out, err) = (sink(alloc, 8, &[failing])?, sink(alloc, 4, &[])?);
-        let ended = call(alloc, "mp5 one p c", &mut store, out, err)?;
+        let ended = call(&rt, alloc, "mp5 one p c", &mut store, out, err)?;
         let written = COUNTED.get(..8 * (failing as usize - 1)).unwrap_or(COUNTED);
         let code = if failing < 10 { 6 } else { 0 };
         let at = format!(in alloc; "write {failing}")?;
@@ -169,7 +170,7 @@ fn writes_that_fail(rt: HostRuntime) -> Result<(), Fail> {
     ] {
         let mut store = counting(alloc, &[])?;
         let (taken, told) = (sink(alloc, 1, &[])?, sink(alloc, 4, &fails)?);
-        let ended = call(alloc, line, &mut store, taken, told)?;
+        let ended = call(&rt, alloc, line, &mut store, taken, told)?;
         assert_eq!(rt; ended.status.code(), code, "at {line}");
         assert_eq!(rt; text_of(&ended.out), out, "at {line}");
         assert_eq!(rt; text_of(&ended.err), err, "at {line}");
@@ -182,23 +183,35 @@ fn writes_that_fail(rt: HostRuntime) -> Result<(), Fail> {
 fn one_byte_at_a_time(rt: HostRuntime) -> Result<(), Fail> {
     let alloc = rt.alloc();
     let capture = packets(alloc, &[10, 20, 30])?;
-    for (line, printed) in [("mp5 one p c", COUNTED), ("mp5 plan p c", PLANNED)] {
+    for (line, printed) in [
+        ("mp5 one p c", COUNTED),
+        ("mp5 plan p c", PLANNED),
+        ("mp5 serial p c", COUNTED),
+    ] {
         let mut store = store_of(alloc, COUNT.as_bytes(), &capture, 1, &[])?;
         let (out, err) = (sink(alloc, 1, &[])?, sink(alloc, 1, &[])?);
-        let ended = call(alloc, line, &mut store, out, err)?;
+        let ended = call(&rt, alloc, line, &mut store, out, err)?;
         assert_ended(&rt, &ended, 0, printed, line);
     }
     Ok(())
 }
 
 // How a call ends on a store of a program `gen:p` and an empty capture `c` that never fails.
-fn sure_code(alloc: Global, line: &str) -> Result<u8, AllocError> {
+fn sure_code<R: Wait>(rt: &R, alloc: Global, line: &str) -> Result<u8, AllocError> {
     let program = file(alloc, "gen:p", COUNT.as_bytes())?;
     let files = vec![in alloc; program, file(alloc, "c", &FILE_HEADER)?]?;
     let mut store = SureStore::new(files);
     let (mut out, mut err) = (SureSink::new(), SureSink::new());
     let words = words_of(alloc, line)?;
-    let status = switch_top(alloc, &words, &mut store, &mut out, &mut err, &mut NoFabric);
+    let status = switch_top(
+        rt,
+        alloc,
+        &words,
+        &mut store,
+        &mut out,
+        &mut err,
+        &mut Threads::new(),
+    );
     Ok(status.code())
 }
 
@@ -206,10 +219,10 @@ fn sure_code(alloc: Global, line: &str) -> Result<u8, AllocError> {
 #[test]
 fn names_that_begin_with_gen(rt: HostRuntime) -> Result<(), Fail> {
     let alloc = rt.alloc();
-    assert_eq!(rt; sure_code(alloc, "mp5 one gen:p c")?, 0);
-    assert_eq!(rt; sure_code(alloc, "mp5 one p c")?, 3);
-    assert_eq!(rt; sure_code(alloc, "mp5 one gen:p q")?, 4);
-    assert_eq!(rt; sure_code(alloc, "mp5 one gen:p gen:p")?, 2);
+    assert_eq!(rt; sure_code(&rt, alloc, "mp5 one gen:p c")?, 0);
+    assert_eq!(rt; sure_code(&rt, alloc, "mp5 one p c")?, 3);
+    assert_eq!(rt; sure_code(&rt, alloc, "mp5 one gen:p q")?, 4);
+    assert_eq!(rt; sure_code(&rt, alloc, "mp5 one gen:p gen:p")?, 2);
     Ok(())
 }
 

@@ -5,7 +5,8 @@ use mp5_words::Name;
 use std::alloc::{AllocError, Global};
 use std::process::Abort;
 use std::str;
-use switch_runner::{MemorySink, MemoryStore, NamedBytes, NoFabric, Status, Store, switch_top};
+use std::sync::Wait;
+use switch_runner::{MemorySink, MemoryStore, NamedBytes, Status, Store, Threads, switch_top};
 
 /// Counts the packets.
 pub(crate) const COUNT: &str =
@@ -110,7 +111,8 @@ pub(crate) struct Ended {
 }
 
 /// Calls the switch with these words.
-pub(crate) fn call<S: Store>(
+pub(crate) fn call<R: Wait, S: Store>(
+    rt: &R,
     alloc: Global,
     line: &str,
     store: &mut S,
@@ -120,16 +122,29 @@ pub(crate) fn call<S: Store>(
     let words = words_of(alloc, line)?;
     let mut out = out;
     let mut err = err;
-    let status = switch_top(alloc, &words, store, &mut out, &mut err, &mut NoFabric);
+    let status = switch_top(
+        rt,
+        alloc,
+        &words,
+        store,
+        &mut out,
+        &mut err,
+        &mut Threads::new(),
+    );
     Ok(Ended { status, out, err })
 }
 
 /// Runs a program on a capture, with no faults.
-pub(crate) fn run(alloc: Global, program: &[u8], capture: &[u8]) -> Result<Ended, AllocError> {
+pub(crate) fn run<R: Wait>(
+    rt: &R,
+    alloc: Global,
+    program: &[u8],
+    capture: &[u8],
+) -> Result<Ended, AllocError> {
     let mut store = store_of(alloc, program, capture, 65536, &[])?;
     let out = sink(alloc, 65536, &[])?;
     let err = sink(alloc, 65536, &[])?;
-    call(alloc, "mp5 one p c", &mut store, out, err)
+    call(rt, alloc, "mp5 one p c", &mut store, out, err)
 }
 
 /// What a sink has taken.

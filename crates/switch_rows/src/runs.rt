@@ -47,7 +47,7 @@ fn four_beginnings(rt: HostRuntime) -> Result<(), Fail> {
     ] {
         let capture = capture_in(alloc, is_big, magic)?;
         assert_eq!(rt; capture.len(), 82);
-        let ended = run(alloc, COUNT.as_bytes(), &capture)?;
+        let ended = run(&rt, alloc, COUNT.as_bytes(), &capture)?;
         let at = format!(in alloc; "{magic} {is_big}")?;
         assert_ended(&rt, &ended, 0, "pkt 0 sport=10 n=1\nreg c=1\ndone 1\n", &at);
     }
@@ -88,7 +88,7 @@ pkt 2 sport=0 dport=0 proto=17 ttl=64 tos=16 len=42
 pkt 3 sport=0 dport=0 proto=0 ttl=0 tos=16 len=60
 done 4
 ";
-    let ended = run(alloc, program.as_bytes(), &capture)?;
+    let ended = run(&rt, alloc, program.as_bytes(), &capture)?;
     assert_ended(&rt, &ended, 0, want, "odd frames");
     Ok(())
 }

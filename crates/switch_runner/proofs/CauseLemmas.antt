@@ -11,7 +11,11 @@ use Rattle.domino_compile.specs.Accepted.{IsAccepted}
 use Rattle.domino_compile.proofs.AcceptedLemmas.{accepted_or_not, one_fault}
 use Rattle.switch_runner.specs.declared.status.Status.{Status}
 use Rattle.switch_runner.specs.declared.status.Status.TheVariants as status
-use Rattle.switch_runner.specs.CommandLine.{Request}
+use Rattle.command_line.specs.declared.request.Mode.{Mode}
+use Rattle.command_line.specs.declared.request.Mode.TheVariants.{One, Plan, Serial}
+use Rattle.command_line.specs.CommandLine.{Request}
+use Rattle.switch_net.specs.Marks.{Runs}
+use Rattle.switch_runner.specs.Networks.{RanBy, RanFor, RanIn, RanOf, RanOn}
 use Rattle.switch_runner.specs.Causes.{Cause, Gained, RoseFor, IsRunnable, IsProgram, IsNoProgram, IsSomeCapture, IsNoCapture, IsAboutProgram, IsOrNoMemory, IsReadThrough, IsTextOf, Prints, OfText}
 use Rattle.switch_runner.specs.Outside.{StoreView, SinkView, ChangesOnly, IsKept, TookFront, gained}
 use Rattle.switch_runner.specs.Top.{NoSource, NoHeaders, Ends, RunEnds, Serves}
@@ -72,13 +76,31 @@ gained_source status.ReadFault r old new out h = refl
 gained_source status.NoMemory r old new out h = refl
 gained_source s r old new out h = absurd h
 
-pub serves_no_source : (s : Status) (r : Request) (old new : StoreView) (out : SinkView) → ChangesOnly r.program old new → NoSource r.program old new s → Serves r old new out out s
-serves_no_source s r old new out only h = record {
+-- no network is run without a program or a capture
+none_source : (mode : Mode) (s : Status) (P : Runs → Runs → Type 0) (name : List ℕ) (old new : StoreView) (runs : Runs) → NoSource name old new s → RanIn mode P s runs runs
+none_source One s P name old new runs h = refl
+none_source Plan s P name old new runs h = refl
+none_source Serial (status.Program f) P name old new runs h = refl
+none_source Serial status.ReadFault P name old new runs h = refl
+none_source Serial status.NoMemory P name old new runs h = inl refl
+none_source Serial s P name old new runs h = absurd h
+
+none_headers : (mode : Mode) (s : Status) (P : Runs → Runs → Type 0) (name : List ℕ) (old new : StoreView) (runs : Runs) → NoHeaders name old new s → RanIn mode P s runs runs
+none_headers One s P name old new runs h = refl
+none_headers Plan s P name old new runs h = refl
+none_headers Serial (status.Capture f) P name old new runs h = refl
+none_headers Serial status.ReadFault P name old new runs h = refl
+none_headers Serial status.NoMemory P name old new runs h = inl refl
+none_headers Serial s P name old new runs h = absurd h
+
+pub serves_no_source : (s : Status) (r : Request) (old new : StoreView) (out : SinkView) (runs : Runs) → ChangesOnly r.program old new → NoSource r.program old new s → Serves r old new out out runs runs s
+serves_no_source s r old new out runs only h = record {
   cause = cause_source s r old new h;
   outputs = record { later = omega arith; text = gained_source s r old new out h };
   kept = kept_once r.program old new only;
   others = λ name not_program not_capture. only.others name not_program;
   stops = record { answered = λ about. only; told = λ text told isnt. only };
+  ran = none_source r.mode s (RanFor r old) r.program old new runs h;
 }
 
 -- ---- a program was read, and no capture
@@ -104,9 +126,9 @@ not_program_headers s name old new h a = a
 not_stopped : (told : Option (List ℕ)) (text : List ℕ) → IfSome told IsProgram → told ≡ Some text → ¬ IsProgram text → ⊥
 not_stopped told text p e isnt = isnt (told_as told text IsProgram e p)
 
-pub serves_no_headers : (s : Status) (r : Request) (p : Program) (old mid new : StoreView) (out : SinkView) → ChangesOnly r.program old mid → ChangesOnly r.capture mid new
-    → IfSome (old.told r.program) (λ text. IsAccepted text p) → NoHeaders r.capture mid new s → Serves r old new out out s
-serves_no_headers s r p old mid new out first second accepted h =
+pub serves_no_headers : (s : Status) (r : Request) (p : Program) (old mid new : StoreView) (out : SinkView) (runs : Runs) → ChangesOnly r.program old mid → ChangesOnly r.capture mid new
+    → IfSome (old.told r.program) (λ text. IsAccepted text p) → NoHeaders r.capture mid new s → Serves r old new out out runs runs s
+serves_no_headers s r p old mid new out runs first second accepted h =
     let program : IfSome (old.told r.program) IsProgram = program_told (old.told r.program) p accepted in
     record {
       cause = cause_headers s r old mid new first program h;
@@ -117,6 +139,7 @@ serves_no_headers s r p old mid new out first second accepted h =
         answered = λ about. absurd (not_program_headers s r.capture mid new h about);
         told = λ text told isnt. absurd (not_stopped (old.told r.program) text program told isnt);
       };
+      ran = none_headers r.mode s (RanFor r old) r.capture mid new runs h;
     }
 
 -- ---- both were read, and what the mode says was done
@@ -159,10 +182,39 @@ not_program_ran : (s : Status) (text : List ℕ) (before after : SinkView) → E
 not_program_ran (status.Program f) text before after h a = h
 not_program_ran s text before after h a = a
 
-pub serves_run : (s : Status) (r : Request) (p : Program) (records : List Record) (old mid new : StoreView) (before after : SinkView) → ChangesOnly r.program old mid → ChangesOnly r.capture mid new
+-- what was run of the read files was run of what is told
+ran_told : (r : Request) (p : Program) (records : List Record) (store : StoreView) (old new : Runs) → IfSome (store.told r.program) (λ text. IsAccepted text p)
+    → IfSome (store.told r.capture) (λ bytes. IsCapture bytes records) → RanOn r.numbers p (headers p.packet.fields records) old new → RanFor r store old new
+ran_told r p records store old new accepted captured ran = record {
+  rose = ran.ran.rose;
+  told =
+      if_told (store.told r.program) (λ text. IsAccepted text p) (λ text. IfSome (store.told r.capture) (λ bytes. RanOf r.numbers text bytes old new))
+      (λ text a. if_told (store.told r.capture) (λ bytes. IsCapture bytes records) (λ bytes. RanOf r.numbers text bytes old new)
+      (λ bytes c. record { program = p; records = records; accepted = a; captured = c; ran = ran }) captured) accepted;
+}
+
+-- a network was run, and what it answered was printed
+pub ran_ended : (P : Runs → Runs → Type 0) (s : Status) (text : List ℕ) (before after : SinkView) (old new : Runs) → Ends text before after s → P old new → RanBy P s old new
+ran_ended P status.Done text before after old new ends h = h
+ran_ended P status.WriteFault text before after old new ends h = h
+ran_ended P status.NoMemory text before after old new ends h = inr h
+ran_ended P s text before after old new ends h = absurd ends
+
+ran_by : (P Q : Runs → Runs → Type 0) (s : Status) (old new : Runs) → (P old new → Q old new) → RanBy P s old new → RanBy Q s old new
+ran_by P Q status.Done old new f h = f h
+ran_by P Q status.WriteFault old new f h = f h
+ran_by P Q status.NoMemory old new f h = elim h [ inl same ↦ inl same | inr ran ↦ inr (f ran) ]
+ran_by P Q s old new f h = h
+
+ran_in : (mode : Mode) (P Q : Runs → Runs → Type 0) (s : Status) (old new : Runs) → (P old new → Q old new) → RanIn mode P s old new → RanIn mode Q s old new
+ran_in One P Q s old new f h = h
+ran_in Plan P Q s old new f h = h
+ran_in Serial P Q s old new f h = ran_by P Q s old new f h
+
+pub serves_run : (s : Status) (r : Request) (p : Program) (records : List Record) (old mid new : StoreView) (before after : SinkView) (start end : Runs) → ChangesOnly r.program old mid → ChangesOnly r.capture mid new
     → IfSome (old.told r.program) (λ text. IsAccepted text p) → IfSome (mid.told r.capture) (λ bytes. IsCapture bytes records)
-    → RunEnds r.mode p (headers p.packet.fields records) before after s → Serves r old new before after s
-serves_run s r p records old mid new before after first second accepted captured (text, is, h) =
+    → RunEnds r.mode p (headers p.packet.fields records) before after s → RanIn r.mode (RanOn r.numbers p (headers p.packet.fields records)) s start end → Serves r old new before after start end s
+serves_run s r p records old mid new before after start end first second accepted captured (text, is, h) ran =
     let told : IfSome (old.told r.capture) (λ bytes. IsCapture bytes records) = told_later (old.told r.capture) (mid.told r.capture) (λ bytes. IsCapture bytes records) (first.told r.capture) captured in
     record {
       cause = cause_ran s r text old new before after (runnable r old p records accepted told) h;
@@ -173,6 +225,7 @@ serves_run s r p records old mid new before after first second accepted captured
         answered = λ about. absurd (not_program_ran s text before after h about);
         told = λ text e isnt. absurd (not_stopped (old.told r.program) text (program_told (old.told r.program) p accepted) e isnt);
       };
+      ran = ran_in r.mode (RanOn r.numbers p (headers p.packet.fields records)) (RanFor r old) s start end (ran_told r p records old start end accepted told) ran;
     }
 
 -- ---- what is told decides the answer, where no read failed

@@ -1,16 +1,16 @@
 -- A run keeps the number of packets, the number of words in each, and the number of cells of each array.
-use Rattle.std.proofs.Common.{◌≡◌, ℤ, List, [], ◌∷◌, length, map, replicate, refl, sym, ap, ◌∙◌}
-use Rattle.std.proofs.lemmas.List.{length-replicate}
+use Rattle.std.proofs.Common.{◌≡◌, ℤ, List, [], ◌∷◌, length, map, refl, sym, ap, subst, ◌∙◌}
 use Rattle.domino_tree.specs.declared.program.Stmt.{Stmt}
 use Rattle.domino_tree.specs.declared.program.Program.{Program}
-use Rattle.domino_tree.specs.Value.{Names, Array, names_of}
+use Rattle.domino_tree.specs.Value.{Names, Array, HasCells, names_of, cell_counts}
 use Rattle.domino_tree.specs.Execution.{State, exec}
 use Rattle.domino_tree.specs.Sequential.{start_cells, untouched, run_from, one}
-use Rattle.domino_tree.proofs.ShapeLemmas.{lengths, exec_keeps}
+use Rattle.domino_tree.proofs.ShapeLemmas.{lengths, exec_keeps, start_has_cells}
+use Rattle.domino_eval.specs.Parts.{Held}
+use Rattle.switch_runner.specs.Running.{run_bench}
 use Rattle.domino_names.specs.declared.infos.ArrayInfo.{ArrayInfo}
 use Rattle.domino_names.specs.Infos.{infos_of, array_of}
 use Rattle.domino_names.proofs.InfoLemmas.{infos_are}
-use Rattle.report_text.specs.Report.{HasCells}
 
 module _ (names : Names) where
   -- what a header is executed on
@@ -24,7 +24,7 @@ module _ (names : Names) where
       ap (λ n. n ∷ lengths (run_from names body after.store.cells headers).packets) (exec_keeps names body (met cells header)).0
       ∙ ap (λ l. length header ∷ l) (run-packets body after.store.cells headers)
 
-  run-cells : (body : List Stmt) (cells headers : List (List ℤ)) → lengths (run_from names body cells headers).cells ≡ lengths cells
+  pub run-cells : (body : List Stmt) (cells headers : List (List ℤ)) → lengths (run_from names body cells headers).cells ≡ lengths cells
   run-cells body cells [] = refl
   run-cells body cells (header ∷ headers) =
       let after : State = exec names body (met cells header) in
@@ -34,15 +34,23 @@ module _ (names : Names) where
 pub one-packets : (p : Program) (headers : List (List ℤ)) → map (λ (c : List ℤ). length c) (one p headers).packets ≡ map (λ (c : List ℤ). length c) headers
 one-packets p headers = run-packets (names_of p) p.function.body (start_cells (names_of p)) headers
 
-start-lengths : (infos : List ArrayInfo) → lengths (map (λ (d : Array). replicate d.length d.start) (map array_of infos)) ≡ map (λ (i : ArrayInfo). i.length) infos
-start-lengths [] = refl
-start-lengths (i ∷ infos) =
-    ap (λ n. n ∷ lengths (map (λ (d : Array). replicate d.length d.start) (map array_of infos))) (length-replicate i.length i.start)
-    ∙ ap (λ l. i.length ∷ l) (start-lengths infos)
+-- a bench has the cells of its program, after a run from the start values on too
+pub bench-cells : (p : Program) (bench after : Held) (headers : List (List ℤ)) → bench ≡ record { program = p; cells = start_cells (names_of p) }
+    → after ≡ record { program = bench.program; cells = (run_bench bench headers).cells }
+    → HasCells (names_of after.program) after.cells
+bench-cells p bench after headers begins ends =
+    let start : Held = record { program = p; cells = start_cells (names_of p) } in
+    let has : HasCells (names_of p) (run_bench start headers).cells = run-cells (names_of p) p.function.body (start_cells (names_of p)) headers ∙ start_has_cells (names_of p) in
+    subst (λ (b : Held). HasCells (names_of b.program) b.cells) (sym ends) (subst (λ (b : Held). HasCells (names_of b.program) (run_bench b headers).cells) (sym begins) has)
+
+counts_are : (infos : List ArrayInfo) → map (λ (d : Array). d.length) (map array_of infos) ≡ map (λ (i : ArrayInfo). i.length) infos
+counts_are [] = refl
+counts_are (i ∷ infos) = ap (λ l. i.length ∷ l) (counts_are infos)
+
+-- the program declares as many cells as its arrays have
+pub declared-cells : (p : Program) → cell_counts (names_of p) ≡ map (λ (i : ArrayInfo). i.length) (infos_of p)
+declared-cells p = ap (λ (l : List Array). map (λ (d : Array). d.length) l) (sym (infos_are p)) ∙ counts_are (infos_of p)
 
 -- each array has as many cells at the end as it is declared with
-pub one-cells : (p : Program) (headers : List (List ℤ)) → HasCells (infos_of p) (one p headers).cells
-one-cells p headers =
-    run-cells (names_of p) p.function.body (start_cells (names_of p)) headers
-    ∙ ap (λ (l : List Array). lengths (map (λ (d : Array). replicate d.length d.start) l)) (sym (infos_are p))
-    ∙ start-lengths (infos_of p)
+pub one-cells : (p : Program) (headers : List (List ℤ)) → lengths (one p headers).cells ≡ map (λ (i : ArrayInfo). i.length) (infos_of p)
+one-cells p headers = run-cells (names_of p) p.function.body (start_cells (names_of p)) headers ∙ start_has_cells (names_of p) ∙ declared-cells p

@@ -6,8 +6,8 @@ pub mod ReportLemmas
 pub mod MemoryLemmas
 pub mod TopLemmas
 pub mod CauseLemmas
-pub mod OneFault
 pub mod CommandLemmas
 pub mod LawLemmas
 pub mod FaultLemmas
 pub mod PlanLemmas
+pub mod NetworkLemmas

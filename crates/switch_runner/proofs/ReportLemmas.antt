@@ -1,14 +1,13 @@
 -- The text from a field or a register on.
-use Rattle.std.proofs.Common.{◌≡◌, ◌∙◌, ◌<◌, ◌≤◌, ◌+◌, ◌-◌, ◌*◌, take, arith, ℕ, zero, suc, ℤ, pos, List, [], ◌∷◌, ◌++◌, length, drop, get_or, slice_index, refl, sym, ap, add-one, drop-cons}
+use Rattle.std.proofs.Common.{◌≡◌, ◌∙◌, ◌<◌, ◌+◌, ◌-◌, ◌*◌, take, arith, ℕ, suc, ℤ, pos, List, [], ◌∷◌, ◌++◌, length, drop, get_or, refl, sym, ap, add-one, drop-cons}
 use Rattle.std.specs.Fmt.{signed_decimal}
 use Rattle.capture_io.specs.Rows.{rows}
 use Rattle.std.proofs.lemmas.Grind.{flat_map-append}
-use Rattle.std.proofs.lemmas.List.{append-nil, get_or-map, length-map, drop_more}
-use Rattle.mp5_words.specs.Cells.{word_at, cells_at}
-use Rattle.domino_tree.specs.declared.program.Program.{Program}
-use Rattle.domino_tree.specs.Value.{Array, names_of, cell_counts}
+use Rattle.std.proofs.lemmas.List.{append-nil, drop_more}
+use Rattle.std.proofs.lemmas.List.Sums.{sum_by-drop_more}
+use Rattle.mp5_words.specs.Cells.{word_at}
 use Rattle.domino_names.specs.declared.infos.ArrayInfo.{ArrayInfo}
-use Rattle.report_text.specs.Report.{fields_text, packet_line, packet_lines, cell_line, cell_lines, register_lines, AreDeclared, HasCells, done_line, run_text, text_of}
+use Rattle.report_text.specs.Report.{fields_text, packet_line, packet_lines, cell_line, cell_lines, register_lines, cell_count, cells_in, done_line, run_text, text_of}
 
 both : {A B C : Type 0} (f : A → B → C) (a a' : A) (b b' : B) → a ≡ a' → b ≡ b' → f a b ≡ f a' b'
 both f a a' b b' p q = ap (λ x. f x b) p ∙ ap (f a') q
@@ -37,12 +36,19 @@ cells_from info zs i z h e =
     ∙ text-append (cell_line info i z) (cell_lines info (i + 1) (drop (i + 1) zs))
 
 -- the lines of an array and of those after it
-pub arrays_from : (infos : List ArrayInfo) (cells : List (List ℤ)) (a : ℕ) (info : ArrayInfo) → a < length infos → a < length cells → info ≡ get_or infos a info
-    → text_of (register_lines (drop a infos) (drop a cells)) ≡ text_of (cell_lines info 0 (cells_at cells a)) ++ text_of (register_lines (drop (a + 1) infos) (drop (a + 1) cells))
-arrays_from infos cells a info h k e =
-    rw (drop_more infos a info h, drop_more cells a [] k)
-    (ap (λ y. text_of (cell_lines y 0 (cells_at cells a) ++ register_lines (drop (a + 1) infos) (drop (a + 1) cells))) (sym e)
-    ∙ text-append (cell_lines info 0 (cells_at cells a)) (register_lines (drop (a + 1) infos) (drop (a + 1) cells)))
+pub arrays_from : (infos : List ArrayInfo) (a : ℕ) (info : ArrayInfo) (words front back : List ℤ) → a < length infos → info ≡ get_or infos a info → front ≡ take info.length words → back ≡ drop info.length words
+    → text_of (register_lines (drop a infos) (cells_in (drop a infos) words)) ≡ text_of (cell_lines info 0 front) ++ text_of (register_lines (drop (a + 1) infos) (cells_in (drop (a + 1) infos) back))
+arrays_from infos a info words front back h e f b =
+    let later : List ArrayInfo = drop (a + 1) infos in
+    ap (λ l. text_of (register_lines l (cells_in l words))) (drop_more infos a info h ∙ ap (λ i. i ∷ later) (sym e))
+    ∙ text-append (cell_lines info 0 (take info.length words)) (register_lines later (cells_in later (drop info.length words)))
+    ∙ ap (λ l. text_of (cell_lines info 0 l) ++ text_of (register_lines later (cells_in later (drop info.length words)))) (sym f)
+    ∙ ap (λ l. text_of (cell_lines info 0 front) ++ text_of (register_lines later (cells_in later l))) (sym b)
+
+-- the cells of an array and of those after it
+pub count_from : (infos : List ArrayInfo) (a : ℕ) (info : ArrayInfo) → a < length infos → info ≡ get_or infos a info → cell_count (drop a infos) ≡ info.length + cell_count (drop (a + 1) infos)
+count_from infos a info h e =
+    sum_by-drop_more (λ (i : ArrayInfo). i.length) infos a info h ∙ ap (λ (i : ArrayInfo). i.length + cell_count (drop (a + 1) infos)) (sym e)
 
 -- the parts of a report
 pub run_parts : (labels : List (List ℕ)) (infos : List ArrayInfo) (packets cells : List (List ℤ)) (n : ℕ)
@@ -51,29 +57,6 @@ run_parts labels infos packets cells n =
     text-append (packet_lines labels 0 packets) (register_lines infos cells ++ done_line n ∷ [])
     ∙ ap (λ (l : List ℕ). text_of (packet_lines labels 0 packets) ++ l)
     (text-append (register_lines infos cells) (done_line n ∷ []) ∙ ap (λ (l : List ℕ). text_of (register_lines infos cells) ++ l) (text_one (done_line n)))
-
--- an array has the cells that it is declared with
-pub cells_of_array : (infos : List ArrayInfo) (cells : List (List ℤ)) (a : ℕ) (info : ArrayInfo) → a < length infos → info ≡ get_or infos a info → HasCells infos cells
-    → length (cells_at cells a) ≡ info.length
-cells_of_array (i ∷ infos) (c ∷ cells) zero info h e has = (let f : length c ≡ i.length = cc in f) ∙ ap (λ (x : ArrayInfo). x.length) (sym e)
-cells_of_array (i ∷ infos) (c ∷ cells) (suc a) info h e has = cells_of_array infos cells a info (omega arith) e (let f : HasCells infos cells = cc in f)
-cells_of_array (i ∷ infos) [] a info h e has = absurd (let f : ⊥ = cc in f)
-cells_of_array [] cells a info h e has = absurd (omega arith)
-
--- there are as many arrays as are declared
-pub count_of_arrays : (infos : List ArrayInfo) (cells : List (List ℤ)) → HasCells infos cells → length cells ≡ length infos
-count_of_arrays infos cells has = sym (length-map cells (λ (c : List ℤ). length c)) ∙ ap length has ∙ length-map infos (λ (i : ArrayInfo). i.length)
-
--- there are as many arrays as the program declares
-pub count_of_declared : (p : Program) (infos : List ArrayInfo) → AreDeclared p infos → length (names_of p).arrays ≡ length infos
-count_of_declared p infos are = sym (length-map (names_of p).arrays (λ (d : Array). d.length)) ∙ ap length are ∙ length-map infos (λ (i : ArrayInfo). i.length)
-
--- an array has as many cells as it is declared with
-pub declared_cells : (p : Program) (infos : List ArrayInfo) (a : ℕ) (info : ArrayInfo) → a < length infos → info ≡ get_or infos a info → AreDeclared p infos → slice_index (cell_counts (names_of p)) a ≡ info.length
-declared_cells p infos a info h e are =
-    ap (λ l. slice_index l a) are
-    ∙ get_or-map (λ (i : ArrayInfo). i.length) infos a info 0 h
-    ∙ ap (λ (i : ArrayInfo). i.length) (sym e)
 
 -- one row, and the rows after it
 pub rows_from : (count t width : ℕ) (words : List ℤ) → t < count → rows (count - t) width words ≡ take width words ∷ rows (count - (t + 1)) width (drop width words)
@@ -90,9 +73,6 @@ packets_from labels count t width words front back h e f b =
     ∙ ap (λ l. packet_line labels t l ++ text_of (packet_lines labels (t + 1) (rows (count - (t + 1)) (length labels) (drop (length labels) words)))) (ap (λ w. take w words) (sym e) ∙ sym f)
     ∙ ap (λ l. packet_line labels t front ++ text_of (packet_lines labels (t + 1) (rows (count - (t + 1)) (length labels) l))) (ap (λ w. drop w words) (sym e) ∙ sym b)
 
--- a row fits what is left of the rows
-pub row_fits : (count t width len : ℕ) → t < count → len ≡ (count - t) * width → width ≤ len
-row_fits count t width len h e = let f : count - t ≡ suc (count - (t + 1)) = omega arith in omega (arith, e, ap (λ n. n * width) f)
-
+-- what is left of the rows behind one
 pub row_left : (count t width len rest : ℕ) → t < count → len ≡ (count - t) * width → rest + width ≡ len → rest ≡ (count - (t + 1)) * width
 row_left count t width len rest h e k = let f : count - t ≡ suc (count - (t + 1)) = omega arith in omega (arith, e, k, ap (λ n. n * width) f)

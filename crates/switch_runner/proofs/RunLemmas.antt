@@ -1,18 +1,24 @@
 -- A run on a bench, packet by packet.
-use Rattle.std.proofs.Common.{◌≡◌, ◌≤◌, ◌<◌, ◌∙◌, ◌+◌, ◌*◌, ℕ, ℤ, List, [], ◌∷◌, ◌++◌, length, take, drop, Some, refl, sym, ap, append_assoc, arith}
+use Rattle.std.proofs.Common.{◌≡◌, ◌≤◌, ◌<◌, ◌∙◌, ◌+◌, ◌*◌, ℕ, ℤ, List, [], ◌∷◌, ◌++◌, length, map, get_or, slice_index, take, drop, Some, refl, sym, ap, append_assoc, arith}
 use Rattle.std.specs.Prelude.{slice_get}
 use Rattle.std.specs.List.{flat_map}
-use Rattle.std.proofs.lemmas.List.{append-nil, drop_all, drop_more, drop-drop, length-append, length-drop, length-take-le, take_all}
+use Rattle.std.proofs.lemmas.List.{append-nil, drop_all, drop_more, drop-drop, flat_map_more, get_or-map, length-append, length-drop, length-map, length-take-le, take_all, take_more}
+use Rattle.std.proofs.lemmas.List.Sums.{sum_by_more, sum_by_more_le}
 use Rattle.std.proofs.Math.Seq.{drop-append_seam, take-append-add, take-append_seam}
 use Rattle.std.proofs.lemmas.Option.{get_or_from_slice_get, slice_get_within}
 use Rattle.domino_tree.specs.declared.program.Program.{Program}
-use Rattle.domino_tree.specs.Value.{names_of}
+use Rattle.domino_tree.specs.Value.{HasCells, names_of, cell_counts}
+use Rattle.mp5_words.specs.Cells.{cells_at}
+use Rattle.domino_names.specs.declared.infos.ArrayInfo.{ArrayInfo}
+use Rattle.domino_names.specs.Infos.{infos_of}
 use Rattle.domino_tree.specs.Sequential.{start_cells}
 use Rattle.domino_eval.specs.Parts.{Held, executed}
 use Rattle.capture_io.specs.Rows.{rows}
 use Rattle.capture_io.proofs.PacketRows.{length-rows, slice_get-rows}
+use Rattle.report_text.specs.Report.{cell_count}
 use Rattle.switch_runner.specs.Running.{IsEnd, run_bench}
 use Rattle.switch_runner.specs.Top.{AreWide}
+use Rattle.switch_runner.proofs.Lengths.{declared-cells}
 use Rattle.switch_runner.proofs.TopLemmas.{rows_back}
 
 -- the bench with other cells
@@ -154,23 +160,71 @@ ended_bench first now initial words count width c =
     ap (λ (p : Program). record { program = p; cells = now.cells }) c.program ∙ ap (λ (l : List (List ℤ)). record { program = first.program; cells = l }) cells
 
 -- a run over a capture's words from the start values on is the program's
-pub run_end : (program : Program) (bench : Held) (headers : List (List ℤ)) (count width : ℕ) (initial words : List ℤ) (after : Held)
+pub run_end : (program : Program) (bench : Held) (headers : List (List ℤ)) (count width : ℕ) (initial words cells : List ℤ) (after : Held)
     → bench ≡ record { program = program; cells = start_cells (names_of program) }
     → AreWide width headers → count ≡ length headers
     → initial ≡ flat_map (λ (p : List ℤ). p) headers
     → words ≡ flat_map (λ (p : List ℤ). p) (run_bench bench (rows count width initial)).packets
     → after ≡ with_cells bench (run_bench bench (rows count width initial)).cells
-    → IsEnd program headers words after
-run_end program bench headers count width initial words after begins wide e is packets cells =
+    → cells ≡ flat_map (λ (c : List ℤ). c) after.cells
+    → IsEnd program headers count words cells
+run_end program bench headers count width initial words cells after begins wide e is packets ends collected =
     let back : rows count width initial ≡ headers = ap (λ (n : ℕ). rows n width initial) e ∙ ap (rows (length headers) width) is ∙ rows_back width headers wide in
     record {
-      of = ap (λ (b : Held). b.program) cells ∙ ap (λ (b : Held). b.program) begins;
+      arrivals = e;
       packets =
           packets
           ∙ ap (λ (l : List (List ℤ)). flat_map (λ (p : List ℤ). p) (run_bench bench l).packets) back
           ∙ ap (λ (b : Held). flat_map (λ (p : List ℤ). p) (run_bench b headers).packets) begins;
-      cells =
-          ap (λ (b : Held). b.cells) cells
-          ∙ ap (λ (l : List (List ℤ)). (run_bench bench l).cells) back
-          ∙ ap (λ (b : Held). (run_bench b headers).cells) begins;
+      registers =
+          collected
+          ∙ ap (λ (b : Held). flat_map (λ (c : List ℤ). c) b.cells) ends
+          ∙ ap (λ (l : List (List ℤ)). flat_map (λ (c : List ℤ). c) (run_bench bench l).cells) back
+          ∙ ap (λ (b : Held). flat_map (λ (c : List ℤ). c) (run_bench b headers).cells) begins;
     }
+
+-- ---- the cells of a bench, in one list of words
+
+-- the cells of one array more
+pub arrays_more : (cells : List (List ℤ)) (a : ℕ) (words new : List ℤ) → a < length cells → words ≡ flat_map (λ c. c) (take a cells) → new ≡ words ++ cells_at cells a → new ≡ flat_map (λ c. c) (take (a + 1) cells)
+arrays_more cells a words new h before more =
+    more
+    ∙ ap (λ l. l ++ cells_at cells a) before
+    ∙ flat_map_more (λ (c : List ℤ). c) [] (take a cells) (cells_at cells a)
+    ∙ ap (λ l. flat_map (λ (c : List ℤ). c) l) (sym (take_more cells a [] h))
+
+-- there is an array for each that is declared
+pub arrays_there : (p : Program) (infos : List ArrayInfo) (cells : List (List ℤ)) → infos ≡ infos_of p → HasCells (names_of p) cells → length cells ≡ length infos
+arrays_there p infos cells i has =
+    sym (length-map cells (λ (c : List ℤ). length c))
+    ∙ ap length (has ∙ declared-cells p)
+    ∙ length-map (infos_of p) (λ (i : ArrayInfo). i.length)
+    ∙ ap length (sym i)
+
+-- an array has as many cells as it is declared with
+pub declared_at : (p : Program) (infos : List ArrayInfo) (a : ℕ) (info : ArrayInfo) → infos ≡ infos_of p → a < length infos → info ≡ get_or infos a info → slice_index (cell_counts (names_of p)) a ≡ info.length
+declared_at p infos a info i h e =
+    ap (λ l. slice_index l a) (declared-cells p ∙ ap (λ (l : List ArrayInfo). map (λ (i : ArrayInfo). i.length) l) (sym i))
+    ∙ get_or-map (λ (i : ArrayInfo). i.length) infos a info 0 h
+    ∙ ap (λ (i : ArrayInfo). i.length) (sym e)
+
+-- and it has them
+pub cells_of_array : (p : Program) (infos : List ArrayInfo) (cells : List (List ℤ)) (a : ℕ) (info : ArrayInfo) → infos ≡ infos_of p → HasCells (names_of p) cells → a < length infos → info ≡ get_or infos a info
+    → length (cells_at cells a) ≡ info.length
+cells_of_array p infos cells a info i has h e =
+    let there : a < length cells = omega (arith, arrays_there p infos cells i has) in
+    sym (get_or-map (λ (c : List ℤ). length c) cells a [] 0 there)
+    ∙ ap (λ l. slice_index l a) has
+    ∙ declared_at p infos a info i h e
+
+-- the cells of an array and of those before it are among all
+pub count_within : (infos : List ArrayInfo) (a : ℕ) (info : ArrayInfo) → a < length infos → info ≡ get_or infos a info → cell_count (take a infos) + info.length ≤ cell_count infos
+count_within infos a info h e =
+    let f : ArrayInfo → ℕ = λ i. i.length in
+    let same : info.length ≡ (get_or infos a info).length = ap (λ (i : ArrayInfo). i.length) e in
+    omega (arith, sum_by_more_le f infos a info h, same)
+
+-- and make the count of those before the next
+pub count_more : (infos : List ArrayInfo) (a : ℕ) (info : ArrayInfo) → a < length infos → info ≡ get_or infos a info → cell_count (take (a + 1) infos) ≡ cell_count (take a infos) + info.length
+count_more infos a info h e =
+    sum_by_more (λ (i : ArrayInfo). i.length) infos a info h ∙ ap (λ (i : ArrayInfo). cell_count (take a infos) + i.length) (sym e)

@@ -1,23 +1,26 @@
 -- From words in one list back to packets, and from what was read to what is told.
 use Rattle.std.proofs.Common.{◌≡◌, ◌∙◌, ◌≤◌, ◌+◌, ◌*◌, ℕ, suc, ℤ, List, [], ◌∷◌, ◌++◌, length, map, take, drop, refl, sym, ap, subst, arith, length-append}
-use Rattle.std.specs.List.{flat_map}
-use Rattle.std.specs.Prelude.{Option, None, Some, IfSome}
+use Rattle.std.specs.List.{flat_map, sum}
+use Rattle.std.specs.Prelude.{All, Option, None, Some, IfSome}
 use Rattle.std.proofs.lemmas.List.{take_all, length-take}
 use Rattle.std.proofs.Math.Seq.{take-append_seam, drop-append_seam}
 use Rattle.std.proofs.lemmas.List.{length-map}
+use Rattle.std.proofs.lemmas.List.Concat.{length-flat_map}
+use Rattle.std.proofs.lemmas.List.Elements.{All-cons, All-nil}
+use Rattle.std.proofs.lemmas.List.Sums.{sum-map}
 use Rattle.capture_io.specs.ClassicCapture.{Record, IsCapture}
 use Rattle.capture_io.specs.Header.{field, header, start_of, headers}
 use Rattle.capture_io.specs.Rows.{rows}
 use Rattle.domino_tree.specs.declared.program.Program.{Program}
 use Rattle.domino_tree.specs.Sequential.{one}
 use Rattle.domino_names.specs.declared.infos.ArrayInfo.{ArrayInfo}
-use Rattle.domino_names.specs.Infos.{infos_of, array_of}
-use Rattle.domino_names.proofs.InfoLemmas.{infos_are}
-use Rattle.domino_tree.specs.Value.{Array, names_of, cell_counts}
+use Rattle.domino_names.specs.Infos.{infos_of}
+use Rattle.domino_tree.proofs.ShapeLemmas.{lengths}
 use Rattle.domino_compile.specs.Accepted.{IsAccepted}
-use Rattle.report_text.specs.Report.{label, AreDeclared, HasCells, run_text, report}
+use Rattle.report_text.specs.Report.{label, cell_count, cells_in, run_text, table_text, report}
 use Rattle.switch_runner.proofs.Lengths.{one-packets, one-cells}
 use Rattle.domino_syntax.specs.ProgramText.{IsProgramText}
+use Rattle.switch_runner.specs.Running.{IsEnd}
 use Rattle.switch_runner.specs.Top.{AreWide}
 
 wide_from : (names : List (List ℕ)) (start : ℕ) (records : List Record) → AreWide (length names) (map (header names start) records)
@@ -26,6 +29,10 @@ wide_from names start (r ∷ rs) = (length-map names (field start r), wide_from 
 
 pub wide_headers : (names : List (List ℕ)) (records : List Record) → AreWide (length names) (headers names records)
 wide_headers names records = wide_from names (start_of records) records
+
+pub all_wide : (width : ℕ) (hs : List (List ℤ)) → AreWide width hs → All (λ header. length header ≡ width) hs
+all_wide width [] w = All-nil (λ header. length header ≡ width)
+all_wide width (h ∷ hs) w = All-cons (λ header. length header ≡ width) h hs w.0 (all_wide width hs w.1)
 
 wide_same : (width : ℕ) (ps hs : List (List ℤ)) → map (λ (c : List ℤ). length c) ps ≡ map (λ (c : List ℤ). length c) hs → AreWide width hs → AreWide width ps
 wide_same width [] hs e w = tt
@@ -51,51 +58,57 @@ flat_length width (p ∷ ps) w = omega (arith, length-append p (flat_map (λ p. 
 packet_count : (p : Program) (hs : List (List ℤ)) → length (one p hs).packets ≡ length hs
 packet_count p hs = sym (length-map (one p hs).packets (λ (c : List ℤ). length c)) ∙ ap length (one-packets p hs) ∙ length-map hs (λ (c : List ℤ). length c)
 
--- the words at the end of a run are those of its packets
-pub words_length : (p : Program) (hs : List (List ℤ)) (labels : List (List ℕ)) (count : ℕ) (words : List ℤ) → AreWide (length p.packet.fields) hs → count ≡ length hs → labels ≡ map label p.packet.fields
-    → words ≡ flat_map (λ p. p) (one p hs).packets → length words ≡ count * length labels
-words_length p hs labels count words w e l packets =
-    let n : length (one p hs).packets ≡ count = packet_count p hs ∙ sym e in
-    ap length packets
-    ∙ flat_length (length p.packet.fields) (one p hs).packets (wide_same (length p.packet.fields) (one p hs).packets hs (one-packets p hs) w)
-    ∙ ap (λ k. k * length p.packet.fields) n
-    ∙ ap (λ k. count * k) (sym (ap length l ∙ length-map p.packet.fields label))
+-- at the end of a run the words are as many as those of its packets
+pub words_length : (p : Program) (hs : List (List ℤ)) (count : ℕ) (words cells : List ℤ) → AreWide (length p.packet.fields) hs → IsEnd p hs count words cells → length words ≡ count * length p.packet.fields
+words_length p hs count words cells w end =
+    let width : ℕ = length p.packet.fields in
+    ap length end.packets
+    ∙ flat_length width (one p hs).packets (wide_same width (one p hs).packets hs (one-packets p hs) w)
+    ∙ ap (λ k. k * width) (packet_count p hs ∙ sym end.arrivals)
 
--- each array has its cells at the end of a run
-pub has_cells : (p : Program) (hs : List (List ℤ)) (infos : List ArrayInfo) (cells : List (List ℤ)) → infos ≡ infos_of p → cells ≡ (one p hs).cells → HasCells infos cells
-has_cells p hs infos cells i at_end = subst (λ (l : List ArrayInfo). HasCells l cells) (sym i) (subst (HasCells (infos_of p)) (sym at_end) (one-cells p hs))
+-- cells that stand one array after another in one list are found again by the arrays' lengths
+cells_back : (infos : List ArrayInfo) (cells : List (List ℤ)) → lengths cells ≡ map (λ (i : ArrayInfo). i.length) infos → cells_in infos (flat_map (λ c. c) cells) ≡ cells
+cells_back [] [] e = refl
+cells_back [] (c ∷ cells) e = absurd (let f : ⊥ = cc in f)
+cells_back (i ∷ infos) [] e = absurd (let f : ⊥ = cc in f)
+cells_back (i ∷ infos) (c ∷ cells) e =
+    let same : length c ≡ i.length = cc in
+    let rest : List ℤ = flat_map (λ c. c) cells in
+    ap (λ k. take k (c ++ rest) ∷ cells_in infos (drop k (c ++ rest))) (sym same)
+    ∙ ap (λ l. l ∷ cells_in infos (drop (length c) (c ++ rest))) (take-append_seam c rest)
+    ∙ ap (λ l. c ∷ cells_in infos l) (drop-append_seam c rest)
+    ∙ ap (λ l. c ∷ l) (cells_back infos cells (let f : lengths cells ≡ map (λ (i : ArrayInfo). i.length) infos = cc in f))
 
-counts_are : (infos : List ArrayInfo) → map (λ (d : Array). d.length) (map array_of infos) ≡ map (λ (i : ArrayInfo). i.length) infos
-counts_are [] = refl
-counts_are (i ∷ infos) = ap (λ l. i.length ∷ l) (counts_are infos)
+-- how many cells there are in all
+cells_length : (infos : List ArrayInfo) (cells : List (List ℤ)) → lengths cells ≡ map (λ (i : ArrayInfo). i.length) infos → length (flat_map (λ c. c) cells) ≡ cell_count infos
+cells_length infos cells e =
+    length-flat_map (λ (c : List ℤ). c) cells
+    ∙ sym (sum-map (λ (c : List ℤ). length c) cells)
+    ∙ ap sum e
+    ∙ sum-map (λ (i : ArrayInfo). i.length) infos
 
--- the arrays have as many cells as the bench's program declares
-pub declared : (p q : Program) (infos : List ArrayInfo) → q ≡ p → infos ≡ infos_of p → AreDeclared q infos
-declared p q infos same i =
-    ap (λ p. cell_counts (names_of p)) same
-    ∙ ap (λ (l : List Array). map (λ (d : Array). d.length) l) (sym (infos_are p))
-    ∙ counts_are (infos_of p)
-    ∙ ap (λ (l : List ArrayInfo). map (λ (i : ArrayInfo). i.length) l) (sym i)
+-- at the end of a run there are as many cells as the arrays have
+pub end_cells : (p : Program) (hs : List (List ℤ)) (count : ℕ) (words cells : List ℤ) → IsEnd p hs count words cells → length cells ≡ cell_count (infos_of p)
+end_cells p hs count words cells end = ap length end.registers ∙ cells_length (infos_of p) (one p hs).cells (one-cells p hs)
 
 -- what stands at the end of a run is told as its report
-pub text_is : (p : Program) (hs : List (List ℤ)) (labels : List (List ℕ)) (infos : List ArrayInfo) (count : ℕ) (words : List ℤ) (cells : List (List ℤ)) → AreWide (length p.packet.fields) hs
-    → count ≡ length hs → labels ≡ map label p.packet.fields → infos ≡ infos_of p → words ≡ flat_map (λ p. p) (one p hs).packets → cells ≡ (one p hs).cells
-    → run_text labels infos (rows count (length labels) words) cells count ≡ report p hs
-text_is p hs labels infos count words cells w e l i packets at_end =
+pub text_is : (p : Program) (hs : List (List ℤ)) (count : ℕ) (words cells : List ℤ) → AreWide (length p.packet.fields) hs → IsEnd p hs count words cells
+    → table_text (map label p.packet.fields) (infos_of p) count words cells ≡ report p hs
+text_is p hs count words cells w end =
     let ps : List (List ℤ) = (one p hs).packets in
-    let all : List (List ℕ) = map label p.packet.fields in
+    let labels : List (List ℕ) = map label p.packet.fields in
+    let infos : List ArrayInfo = infos_of p in
     let width : ℕ = length p.packet.fields in
-    let n : length ps ≡ count = packet_count p hs ∙ sym e in
-    let back : rows count width words ≡ ps =
-    ap (rows count width) packets
+    let n : length ps ≡ count = packet_count p hs ∙ sym end.arrivals in
+    let packets : rows count width words ≡ ps =
+    ap (rows count width) end.packets
     ∙ ap (λ k. rows k width (flat_map (λ p. p) ps)) (sym n)
     ∙ rows_back width ps (wide_same width ps hs (one-packets p hs) w) in
-    ap (λ x. run_text x infos (rows count (length x) words) cells count) l
-    ∙ ap (λ k. run_text all infos (rows count k words) cells count) (length-map p.packet.fields label)
-    ∙ ap (λ x. run_text all infos x cells count) back
-    ∙ ap (λ x. run_text all x ps cells count) i
-    ∙ ap (λ x. run_text all (infos_of p) ps x count) at_end
-    ∙ ap (run_text all (infos_of p) ps (one p hs).cells) e
+    let arrays : cells_in infos cells ≡ (one p hs).cells = ap (cells_in infos) end.registers ∙ cells_back infos (one p hs).cells (one-cells p hs) in
+    ap (λ k. run_text labels infos (rows count k words) (cells_in infos cells) count) (length-map p.packet.fields label)
+    ∙ ap (λ x. run_text labels infos x (cells_in infos cells) count) packets
+    ∙ ap (λ x. run_text labels infos ps x count) arrays
+    ∙ ap (run_text labels infos ps (one p hs).cells) end.arrivals
 
 -- what was read to one byte past a limit, and is within it, is all that is told
 whole : (limit : ℕ) (bytes : List ℕ) → length (take (limit + 1) bytes) ≤ limit → take (limit + 1) bytes ≡ bytes

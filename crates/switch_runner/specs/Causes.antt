@@ -16,9 +16,11 @@ use Rattle.domino_compile.specs.declared.fault.ProgramFault.TheVariants as progr
 use Rattle.domino_compile.specs.Accepted.{IsAccepted, IsUnaccepted}
 use Rattle.switch_runner.specs.declared.status.Status.{Status}
 use Rattle.switch_runner.specs.declared.status.Status.TheVariants as status
-use Rattle.switch_runner.specs.declared.command_line.Mode.{Mode}
-use Rattle.switch_runner.specs.declared.command_line.Mode.TheVariants.{One, Plan}
-use Rattle.switch_runner.specs.CommandLine.{Request}
+use Rattle.command_line.specs.declared.request.Mode.{Mode}
+use Rattle.command_line.specs.declared.request.Mode.TheVariants.{One, Plan, Serial}
+use Rattle.command_line.specs.declared.request.WordsFault.{WordsFault}
+use Rattle.command_line.specs.declared.request.WordsFault.TheVariants as words
+use Rattle.command_line.specs.CommandLine.{Request}
 use Rattle.switch_runner.specs.Outside.{StoreView, SinkView, Rose, TookFront, gained}
 use Rattle.switch_runner.specs.HelpText.{help_text}
 use Rattle.report_text.specs.RefusalLine.{program_line, refusal_line}
@@ -39,6 +41,12 @@ lacks_memory (program.Check check_fault.NoMemory) = true
 lacks_memory (program.Check f) = false
 lacks_memory (program.TooLarge n) = false
 lacks_memory program.NoMemory = true
+
+-- why words aren't taken as an answer
+abbrev pub answer_of_words : WordsFault → Status
+answer_of_words words.Help = status.Help
+answer_of_words words.Words = status.Words
+answer_of_words words.NoMemory = status.NoMemory
 
 -- a fault of a program as an answer
 abbrev pub answer_of_program : ProgramFault → Status
@@ -74,11 +82,12 @@ pub record IsRunnable (r : Request) (store : StoreView) : Type 0 where
   pub program : IfSome (store.told r.program) IsProgram
   pub capture : IfSome (store.told r.capture) IsSomeCapture
 
--- this is what a mode prints of a program and headers: the report of the run; or the text of the program's code, with
--- the places of the headers
+-- this is what a mode prints of a program and headers: the report of the sequential run, on a network too; or the text of
+-- the program's code, with the places of the headers
 abbrev pub IsTextOf : Mode → Program → List (List ℤ) → List ℕ → Type 0
 IsTextOf One p headers text = text ≡ report p headers
 IsTextOf Plan p headers text = (code : Staged) × IsCompiled p code × (text ≡ plan_text p code headers)
+IsTextOf Serial p headers text = text ≡ report p headers
 
 -- this is what a mode prints of the program that a text is accepted as, and of the headers of the capture that bytes are
 pub record Prints (mode : Mode) (text bytes printed : List ℕ) : Type 0 where

@@ -5,7 +5,10 @@ use Rattle.domino_compile.specs.declared.fault.ProgramFault.{ProgramFault}
 use Rattle.switch_runner.specs.declared.status.Status.{Status}
 use Rattle.switch_runner.specs.declared.status.Status.TheVariants as status
 use Rattle.switch_runner.specs.Outside.{StoreView, SinkView, Rose, TookFront, gained, ChangesOnly, IsKept}
-use Rattle.switch_runner.specs.CommandLine.{Request, AsksForHelp, IsRefused, asked}
+use Rattle.command_line.specs.declared.request.Mode.TheVariants.{Serial}
+use Rattle.command_line.specs.CommandLine.{Request, AsksForHelp, IsRefused, asked}
+use Rattle.switch_net.specs.Marks.{Runs}
+use Rattle.switch_runner.specs.Networks.{RanFor, RanIn}
 use Rattle.switch_runner.specs.Causes.{Cause, Gained, ComesWhere, IsOrNoMemory, IsReadThrough, IsProgram, IsNoProgram, IsSomeCapture, IsNoCapture, IsAboutProgram, line}
 
 -- the bytes of each word
@@ -60,6 +63,14 @@ pub record StopsAt (r : Request) (old new : StoreView) (answer : Status) : Type 
 abbrev pub StopsAtProgram : {Z : Type 0} → List (String Z) → StoreView → StoreView → Status → Type 0
 StopsAtProgram words old new answer = IfSome (request words) (λ r. StopsAt r old new answer)
 
+-- the fabric ran what the answer to taken words says: in mode `serial` a network for each answer that prints
+abbrev pub Networks : {Z : Type 0} → List (String Z) → StoreView → Runs → Runs → Status → Type 0
+Networks words store old new answer = IfSome (request words) (λ r. RanIn r.mode (RanFor r store) answer old new)
+
+-- the words ask for no network
+abbrev pub AskForNone : {Z : Type 0} → List (String Z) → Type 0
+AskForNone words = IfSome (request words) (λ r. r.mode ≢ Serial)
+
 -- a sink has gained what tells of this answer: a prefix of it where a write failed, and nothing for Done
 pub record Tells (answer : Status) (old new : SinkView) : Type 0 where
   pub whole : ¬ Rose old.faults new.faults → new.taken ≡ gained (line answer) old.taken
@@ -67,8 +78,8 @@ pub record Tells (answer : Status) (old new : SinkView) : Type 0 where
   pub later : old.faults ≤ new.faults
   pub silent : answer ≡ status.Done → new.taken ≡ old.taken
 
--- the laws of a call with these words: the store before and after, the output before and after, and the answer
-pub record Laws {Z : Type 0} (words : List (String Z)) (old new : StoreView) (before after : SinkView) (answer : Status) : Type 0 where
+-- the laws of a call with these words: the store, the output and the fabric's runs before and after, and the answer
+pub record Laws {Z : Type 0} (words : List (String Z)) (old new : StoreView) (before after : SinkView) (first last : Runs) (answer : Status) : Type 0 where
   pub help : ComesWhere (AsksForHelp (texts words)) answer status.Help
   pub refused : ComesWhere (IsRefused (texts words)) answer status.Words
   pub because : Because words old new answer
@@ -79,3 +90,4 @@ pub record Laws {Z : Type 0} (words : List (String Z)) (old new : StoreView) (be
   pub kept : IsKept old new
   pub names : ReadsAsked words old new
   pub stops : StopsAtProgram words old new answer
+  pub networks : Networks words old first last answer

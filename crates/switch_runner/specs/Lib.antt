@@ -5,6 +5,9 @@ pub use Rattle.domino_compile.specs.Accepted
 pub use Rattle.domino_compile.specs.Compiled
 pub use Rattle.domino_names.specs.Infos
 pub use Rattle.domino_eval.specs.Parts
+pub use Rattle.command_line.specs.CommandLine
+pub use Rattle.switch_net.specs.Marks
+pub use Rattle.compiled_run.specs.SourceRun
 pub use Rattle.capture_io.specs.ClassicCapture
 pub use Rattle.capture_io.specs.Header
 pub use Rattle.capture_io.specs.Refusal
@@ -15,9 +18,9 @@ pub mod Outside
 pub mod Faults
 pub mod Running
 pub mod Writing
-pub mod CommandLine
 pub mod HelpText
 pub mod Causes
+pub mod Networks
 pub mod Laws
 pub mod Transfer
 pub mod Memory

@@ -1,5 +1,5 @@
 -- The run of a bench over headers, and what stands at its end.
-use Rattle.std.specs.Prelude.{◌≡◌, ℤ, List}
+use Rattle.std.specs.Prelude.{◌≡◌, ℕ, ℤ, List, length}
 use Rattle.std.specs.List.{flat_map}
 use Rattle.domino_tree.specs.declared.program.Program.{Program}
 use Rattle.domino_tree.specs.Value.{names_of}
@@ -10,9 +10,9 @@ use Rattle.domino_eval.specs.Parts.{Held}
 abbrev pub run_bench : Held → List (List ℤ) → Outcome
 run_bench bench headers = run_from (names_of bench.program) bench.program.function.body bench.cells headers
 
--- the bench is the program's; the packets of the program's sequential run, one after another in one list of words,
--- and its cells at the end
-pub record IsEnd (program : Program) (headers : List (List ℤ)) (words : List ℤ) (bench : Held) : Type 0 where
-  pub of : bench.program ≡ program
+-- how many headers there are; the packets of the program's sequential run over them, one after another in one list of
+-- words, and its cells at the end, one array after another in one list of words
+pub record IsEnd (program : Program) (headers : List (List ℤ)) (count : ℕ) (words cells : List ℤ) : Type 0 where
+  pub arrivals : count ≡ length headers
   pub packets : words ≡ flat_map (λ p. p) (one program headers).packets
-  pub cells : bench.cells ≡ (one program headers).cells
+  pub registers : cells ≡ flat_map (λ c. c) (one program headers).cells

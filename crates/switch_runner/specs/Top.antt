@@ -4,11 +4,18 @@ use Rattle.capture_io.specs.declared.fault.CaptureFault.TheVariants as capture
 use Rattle.switch_runner.specs.declared.status.Status.{Status}
 use Rattle.switch_runner.specs.declared.status.Status.TheVariants as status
 use Rattle.domino_tree.specs.declared.program.Program.{Program}
-use Rattle.switch_runner.specs.declared.command_line.Mode.{Mode}
-use Rattle.switch_runner.specs.CommandLine.{Request}
+use Rattle.command_line.specs.declared.request.Mode.{Mode}
+use Rattle.command_line.specs.declared.request.Request.{Request as Words}
+use Rattle.command_line.specs.CommandLine.{Request, request_with}
+use Rattle.switch_net.specs.Marks.{Runs}
+use Rattle.switch_runner.specs.Networks.{RanFor, RanIn}
 use Rattle.switch_runner.specs.Causes.{Cause, RoseFor, lacks_memory, IsNoProgram, IsNoCapture, IsTextOf}
 use Rattle.switch_runner.specs.Laws.{Outputs, StopsAt}
 use Rattle.switch_runner.specs.Outside.{StoreView, SinkView, IsKept, Grew, Stopped}
+
+-- what taken words ask for
+abbrev pub words_of : Words → Request
+words_of r = request_with r.mode r.program.now r.capture.now r.settings r.seed
 
 -- each packet has so many words
 abbrev pub AreWide : ℕ → List (List ℤ) → Type 0
@@ -40,10 +47,11 @@ Ends text old new s = ⊥
 abbrev pub RunEnds : Mode → Program → List (List ℤ) → SinkView → SinkView → Status → Type 0
 RunEnds mode p headers old new s = (text : List ℕ) × IsTextOf mode p headers text × Ends text old new s
 
--- what a request does to the store and to the output, by its answer
-pub record Serves (r : Request) (old new : StoreView) (before after : SinkView) (answer : Status) : Type 0 where
+-- what a request does to the store, to the output and to the fabric's runs, by its answer
+pub record Serves (r : Request) (old new : StoreView) (before after : SinkView) (first last : Runs) (answer : Status) : Type 0 where
   pub cause : Cause answer r old new
   pub outputs : Outputs answer r old before after
   pub kept : IsKept old new
   pub others : (name : List ℕ) → name ≢ r.program → name ≢ r.capture → new.faults name ≡ old.faults name
   pub stops : StopsAt r old new answer
+  pub ran : RanIn r.mode (RanFor r old) answer first last

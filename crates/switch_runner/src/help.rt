@@ -6,20 +6,27 @@ const HELP: &str = "\
 Runs a packet transaction over the packets of a capture, and prints what becomes
 of them and of the registers; or prints the transaction's code.
 
-Usage: mp5 MODE PROGRAM CAPTURE
+Usage: mp5 MODE PROGRAM CAPTURE [OPTIONS]
        mp5 --help
 
 Arguments:
   MODE     how to run:
-             one   one packet after another, in order of arrival, on one thread
-             plan  the compiled program: groups, and the places of each packet
+             one     one packet after another, in order of arrival
+             plan    the compiled program: groups, and the places of each packet
+             serial  a switch of several pipelines, step by step, on one thread
   PROGRAM  the file of the transaction, a text in Domino of at most 65536 bytes
   CAPTURE  the file of the packets, a classic capture (pcap) of Ethernet frames
            of at most 134217728 bytes; its name can't begin with gen:
 
 Options:
-  -h, --help  prints this text on standard error
-  --          ends the options, so that the name of a file may begin with -
+  --pipelines K  how many pipelines a switch has, from 1 to 8 (default 4)
+  --window W     how many of its own arrivals a pipeline has out at once, from 1
+                 to 1024 (default 64)
+  --round M      how many arrivals a round has, from 1 to 65536 (default 256)
+  --seed N       where the order of the steps starts from, from 0 to 4294967295
+                 (default 0)
+  -h, --help     prints this text on standard error
+  --             ends the options, so that the name of a file may begin with -
 
 The exit status is 0 where all was written, and else
   1  help was asked for          5  a file could not be read
@@ -46,7 +53,19 @@ mod tests {
         for line in text.lines() {
             assert!(rt; line.len() <= 80, "'{line}'");
         }
-        for word in ["one", "plan", "MODE", "PROGRAM", "CAPTURE", "--help"] {
+        for word in [
+            "one",
+            "plan",
+            "serial",
+            "MODE",
+            "PROGRAM",
+            "CAPTURE",
+            "--pipelines",
+            "--window",
+            "--round",
+            "--seed",
+            "--help",
+        ] {
             assert!(rt; text.contains(word), "{word}");
         }
     }

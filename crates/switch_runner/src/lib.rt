@@ -6,9 +6,7 @@
 #![tactic(auto)]
 
 mod block;
-mod command_line;
 mod edge;
-mod fabric;
 mod help;
 mod limits;
 mod line;
@@ -23,9 +21,9 @@ mod transfer;
 
 pub use domino_compile::ProgramFault;
 pub use edge::{FileStore, OutSink};
-pub use fabric::{Fabric, NoFabric};
 pub use limits::{MAX_CAPTURE, MAX_TEXT};
 pub use memory::{MemorySink, MemoryStore, NamedBytes, SureSink, SureStore};
 pub use outside::{Failed, Sink, Store, StoreFault};
 pub use status::Status;
+pub use switch_net::{Fabric, Threads};
 pub use top::switch_top;

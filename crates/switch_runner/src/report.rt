@@ -1,21 +1,24 @@
 //! The report of a run, written through a block.
-ghost use Rattle.std.specs.Prelude.{◌≡◌, ◌<◌, ◌≤◌, ◌*◌, ◌++◌, ◌∷◌, [], ℕ, length, codes, decimal, OnOk, OnErr, slice_index};
+ghost use Rattle.std.specs.Prelude.{◌≡◌, ◌*◌, ◌++◌, ◌∷◌, [], ℤ, List, length, map, decimal, OnOk, OnErr};
 ghost use Rattle.std.specs.Fmt.{signed_decimal};
 ghost use Rattle.std.specs.List.{flat_map};
 ghost use Rattle.capture_io.specs.Rows.{rows};
-ghost use Rattle.mp5_words.specs.Cells.{cells_at};
+ghost use Rattle.domino_names.specs.Infos.{infos_of};
 ghost use Rattle.switch_runner.specs.Outside.{Grew, Stopped};
-ghost use Rattle.domino_tree.specs.Value.{names_of, cell_counts};
+ghost use Rattle.switch_runner.specs.Running.{IsEnd};
+ghost use Rattle.switch_runner.specs.Top.{AreWide, Ends};
 ghost use Rattle.switch_runner.specs.Writing.{Puts, at};
-ghost use Rattle.report_text.specs.Report.{fields_text, packet_line, packet_lines, register_line, cell_line, cell_lines, register_lines, AreDeclared, HasCells, done_line, table_text, text_of};
+ghost use Rattle.report_text.specs.Report.{fields_text, packet_line, packet_lines, register_line, cell_line, cell_lines, register_lines, cell_count, cells_in, done_line, label, report, table_text, text_of};
 
 use crate::block::Block;
 use crate::outside::{Failed, Sink};
-use domino_check::ArrayInfo;
-use domino_eval::Bench;
+use crate::status::Status;
+use domino_check::{ArrayInfo, Checked};
 use itoa::Buffer;
 use mp5_words::Name;
+use report_text::labels_of;
 use sqlite_items::Items;
+use std::alloc::Global;
 
 // Puts pieces one after another.
 fn put_all<K: Sink>(block: &mut Block, out: &mut K, pieces: &[&[u8]]) -> Result<(), Failed>
@@ -179,37 +182,35 @@ fn put_cells<K: Sink>(
     block: &mut Block,
     out: &mut K,
     info: &ArrayInfo,
-    bench: &Bench<'_>,
-    array: u32,
+    cells: &[i32],
 ) -> Result<(), Failed>
-    requires array { array < length (names_of bench.now.program).arrays }
-    requires declared { slice_index (cell_counts (names_of bench.now.program)) array
-        ≡ info.now.length }
-    requires cells { length (cells_at bench.now.cells array) ≡ info.now.length }
-    ensures { Puts (text_of (cell_lines info.now 0 (cells_at bench.now.cells array)))
+    requires { length cells.now ≡ info.now.length }
+    ensures { Puts (text_of (cell_lines info.now 0 cells.now))
         (at block.old (K.seen out.old)) (at block.new (K.seen out.new)) result }
 {
     for i in 0..info.length {
-        put_cell(block, out, info, i, bench.cell(array, i))?;
+        put_cell(block, out, info, i, cells[i as usize])?;
     }
     Ok(())
 }
 
-// The lines of the arrays in order of declaration.
+// The lines of the arrays in order of declaration, whose cells stand one array after another in one list of
+// words.
 fn put_arrays<K: Sink>(
     block: &mut Block,
     out: &mut K,
     infos: &[ArrayInfo],
-    bench: &Bench<'_>,
+    cells: &[i32],
 ) -> Result<(), Failed>
-    requires few { length infos.now ≤ 16 }
-    requires declared { AreDeclared bench.now.program infos.now }
-    requires cells { HasCells infos.now bench.now.cells }
-    ensures { Puts (text_of (register_lines infos.now bench.now.cells))
+    requires { length cells.now ≡ cell_count infos.now }
+    ensures { Puts (text_of (register_lines infos.now (cells_in infos.now cells.now)))
         (at block.old (K.seen out.old)) (at block.new (K.seen out.new)) result }
 {
-    for (array, info) in infos.iter().enumerate() {
-        put_cells(block, out, info, bench, array as u32)?;
+    let mut rest = cells;
+    for info in infos {
+        let (own, later) = rest.split_at(info.length as usize);
+        put_cells(block, out, info, own)?;
+        rest = later;
     }
     Ok(())
 }
@@ -235,45 +236,71 @@ fn put_report<K: Sink>(
     labels: &[Items<u8>],
     packets: &[i32],
     infos: &[ArrayInfo],
-    bench: &Bench<'_>,
+    cells: &[i32],
 ) -> Result<(), Failed>
     requires packets { length packets.now ≡ count * length labels.now }
-    requires few { length infos.now ≤ 16 }
-    requires declared { AreDeclared bench.now.program infos.now }
-    requires cells { HasCells infos.now bench.now.cells }
-    ensures { Puts (table_text labels.now infos.now count packets.now bench.now.cells)
+    requires cells { length cells.now ≡ cell_count infos.now }
+    ensures { Puts (table_text labels.now infos.now count packets.now cells.now)
         (at block.old (K.seen out.old)) (at block.new (K.seen out.new)) result }
 {
     put_packets(block, out, count, labels, packets)?;
-    put_arrays(block, out, infos, bench)?;
+    put_arrays(block, out, infos, cells)?;
     put_done(block, out, count)
 }
 
-/// Writes the report of a run: the packets, which stand one after another in one list of words, each of
-/// their fields behind its label, the cells that differ from their start values, and the number of
-/// arrivals. It goes out in blocks, and takes no memory.
-pub(crate) fn write_report<K: Sink>(
+/// Writes the report of a run: the packets, each of their fields behind its label, the cells that differ
+/// from their start values, and the number of arrivals. The packets stand one after another in one list of
+/// words, and so do the cells of the arrays. The report goes out in blocks, and takes no memory.
+fn write_report<K: Sink>(
     block: Block,
     out: &mut K,
     count: u32,
     labels: &[Items<u8>],
     packets: &[i32],
     infos: &[ArrayInfo],
-    bench: &Bench<'_>,
+    cells: &[i32],
 ) -> Result<(), Failed>
     requires empty { block ≡ [] }
     requires packets { length packets.now ≡ count * length labels.now }
-    requires few { length infos.now ≤ 16 }
-    requires declared { AreDeclared bench.now.program infos.now }
-    requires cells { HasCells infos.now bench.now.cells }
+    requires cells { length cells.now ≡ cell_count infos.now }
     ensures ok { OnOk result
-        (Grew (table_text labels.now infos.now count packets.now bench.now.cells)
+        (Grew (table_text labels.now infos.now count packets.now cells.now)
         (K.seen out.old) (K.seen out.new)) }
     ensures err { OnErr result
-        (Stopped (table_text labels.now infos.now count packets.now bench.now.cells)
+        (Stopped (table_text labels.now infos.now count packets.now cells.now)
         (K.seen out.old) (K.seen out.new)) }
 {
     let mut block = block;
-    put_report(&mut block, out, count, labels, packets, infos, bench)?;
+    put_report(&mut block, out, count, labels, packets, infos, cells)?;
     block.flush(out)
+}
+
+/// Prints the report of a run of the program that ends with these packets and cells. The packets stand one
+/// after another in one list of words, and so do the cells of the arrays.
+pub(crate) fn print_run<K: Sink>(
+    alloc: Global,
+    checked: &Checked,
+    count: u32,
+    packets: &[i32],
+    cells: &[i32],
+    out: &mut K,
+) -> Status
+    requires packets { length packets.now ≡ count * length checked.now.packet.fields }
+    requires cells { length cells.now ≡ cell_count (infos_of checked.now) }
+    ensures text { Ends (table_text (map label checked.now.packet.fields) (infos_of checked.now)
+        count packets.now cells.now) (K.seen out.old) (K.seen out.new) result }
+    ensures report { (headers : List (List ℤ)) → AreWide (length checked.now.packet.fields) headers
+        → IsEnd checked.now headers count packets.now cells.now
+        → Ends (report checked.now headers) (K.seen out.old) (K.seen out.new) result }
+{
+    let Ok(labels) = labels_of(alloc, checked.field_names()) else {
+        return Status::NoMemory;
+    };
+    let Ok(block) = Block::new(alloc) else {
+        return Status::NoMemory;
+    };
+    match write_report(block, out, count, &labels, packets, checked.arrays(), cells) {
+        Ok(()) => Status::Done,
+        Err(Failed) => Status::WriteFault,
+    }
 }

@@ -1,27 +1,31 @@
 //! The sequential run.
 
-ghost use Rattle.std.specs.Prelude.{◌≡◌, ◌≤◌, ◌+◌, ◌*◌, ◌++◌, length, take, drop, IfOk};
+ghost use Rattle.std.specs.Prelude.{◌≡◌, ◌<◌, ◌≤◌, ◌+◌, ◌*◌, ◌++◌, [], length, take, drop, slice_index, IfOk, vec_len, vec_capacity};
 ghost use Rattle.std.specs.List.{flat_map};
 ghost use Rattle.capture_io.specs.Rows.{rows};
+ghost use Rattle.mp5_words.specs.Cells.{cells_at};
+ghost use Rattle.domino_tree.specs.Value.{names_of, cell_counts, HasCells};
+ghost use Rattle.domino_names.specs.Infos.{infos_of};
 ghost use Rattle.domino_eval.specs.Parts.{executed};
+ghost use Rattle.report_text.specs.Report.{cell_count};
 ghost use Rattle.switch_runner.specs.Running.{IsEnd, run_bench};
 ghost use Rattle.switch_runner.specs.Top.{AreWide};
 
 use capture_io::Capture;
-use domino_check::Checked;
+use domino_check::{ArrayInfo, Checked};
 use domino_eval::Bench;
 use mp5_words::NoMemory;
 use std::alloc::Global;
 
 /// What stands at the end of a run.
 #[derive(Drop)]
-pub(crate) struct FinalState<'a> {
+pub(crate) struct FinalState {
     /// How many packets there are.
     pub(crate) count: u32,
     /// The packets' fields, one packet after another in order of arrival.
     pub(crate) packets: Vec<i32>,
-    /// The cells.
-    pub(crate) bench: Bench<'a>,
+    /// The cells, one array after another in order of declaration.
+    pub(crate) cells: Vec<i32>,
 }
 
 /// Executes the transaction on the packet that begins at this word, in its place.
@@ -55,25 +59,79 @@ fn run_packets(bench: &mut Bench<'_>, packets: &mut [i32], count: u32, width: us
     }
 }
 
+/// How many cells the arrays have in all.
+fn count_cells(infos: &[ArrayInfo]) -> usize
+    requires { length infos.now ≤ 16 }
+    ensures { result ≡ cell_count infos.now }
+{
+    let mut total = 0;
+    for info in infos {
+        total += info.length as usize;
+    }
+    total
+}
+
+/// Appends the cells of an array, of which there are so many. There is room for them.
+fn push_array(bench: &Bench<'_>, array: u32, count: u32, cells: &mut Vec<i32>)
+    requires array { array < length (names_of bench.now.program).arrays }
+    requires declared { slice_index (cell_counts (names_of bench.now.program)) array ≡ count }
+    requires held { length (cells_at bench.now.cells array) ≡ count }
+    requires room { vec_len cells.old + count ≤ vec_capacity cells.old }
+    ensures items { cells.new.items ≡ cells.old.items ++ cells_at bench.now.cells array }
+    ensures len { vec_len cells.new ≡ vec_len cells.old + count }
+    ensures capacity { vec_capacity cells.new ≡ vec_capacity cells.old }
+{
+    for i in 0..count {
+        cells.push_reserved(bench.cell(array, i));
+    }
+}
+
+/// Appends the cells of one array after another. There is room for them.
+fn push_arrays(bench: &Bench<'_>, infos: &[ArrayInfo], cells: &mut Vec<i32>)
+    requires few { length infos.now ≤ 16 }
+    requires infos { infos.now ≡ infos_of bench.now.program }
+    requires held { HasCells (names_of bench.now.program) bench.now.cells }
+    requires empty { cells.old.items ≡ [] }
+    requires room { cell_count infos.now ≤ vec_capacity cells.old }
+    ensures { cells.new.items ≡ flat_map (λ c. c) bench.now.cells }
+{
+    for (array, info) in infos.iter().enumerate() {
+        push_array(bench, array as u32, info.length, cells);
+    }
+}
+
+/// The cells of a bench, one array after another in order of declaration.
+fn all_cells(alloc: Global, checked: &Checked, bench: &Bench<'_>) -> Result<Vec<i32>, NoMemory>
+    requires of { bench.now.program ≡ checked.now }
+    requires held { HasCells (names_of bench.now.program) bench.now.cells }
+    ensures { IfOk result (λ cells. cells.items ≡ flat_map (λ c. c) bench.now.cells) }
+{
+    let infos = checked.arrays();
+    let mut cells = Vec::with_capacity(alloc, count_cells(infos))?;
+    push_arrays(bench, infos, &mut cells);
+    Ok(cells)
+}
+
 /// Runs the transaction on one packet after another, in arrival order and in the capture's own table, with
 /// cells that have their start values.
-pub(crate) fn run_one<'a>(
+pub(crate) fn run_one(
     alloc: Global,
-    checked: &'a Checked,
+    checked: &Checked,
     capture: Capture,
-) -> Result<FinalState<'a>, NoMemory>
+) -> Result<FinalState, NoMemory>
     requires { AreWide (length checked.now.packet.fields) capture }
-    ensures count { IfOk result (λ end. end.count ≡ length capture) }
-    ensures end { IfOk result (λ end. IsEnd checked.now capture end.packets.items end.bench) }
+    ensures { IfOk result (λ end. IsEnd checked.now capture
+        end.count end.packets.items end.cells.items) }
 {
     let mut bench = Bench::new(alloc, checked)?;
     let count = capture.count();
     let width = checked.field_names().count() as usize;
     let mut packets = capture.into_words();
     run_packets(&mut bench, packets.as_mut_slice(), count, width);
+    let cells = all_cells(alloc, checked, &bench)?;
     Ok(FinalState {
         count,
         packets,
-        bench,
+        cells,
     })
 }

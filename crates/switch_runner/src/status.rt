@@ -2,6 +2,7 @@ ghost use Rattle.std.specs.Prelude.{◌≡◌};
 
 use crate::outside::StoreFault;
 use capture_io::CaptureFault;
+use command_line::WordsFault;
 use domino_compile::ProgramFault;
 
 /// How a call of the program ends.
@@ -42,6 +43,20 @@ impl Status {
             Status::ReadFault => 5,
             Status::WriteFault => 6,
             Status::NoMemory => 7,
+        }
+    }
+}
+
+impl From<WordsFault> for Status {
+    ghost use Rattle.switch_runner.specs.Causes.{answer_of_words};
+
+    ghost from_gives = { λ fault e. e ≡ answer_of_words fault };
+
+    fn from(fault: WordsFault) -> Status {
+        match fault {
+            WordsFault::Help => Status::Help,
+            WordsFault::Words => Status::Words,
+            WordsFault::NoMemory => Status::NoMemory,
         }
     }
 }

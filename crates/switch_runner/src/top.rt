@@ -1,36 +1,40 @@
 //! The top call: the words, the program, the capture, the run, and what is printed.
-ghost use Rattle.std.specs.Prelude.{◌≡◌, List, length, map, string_bytes, IfOk, IfErr, IfSome, None};
+ghost use Rattle.std.specs.Prelude.{◌≡◌, ◌≢◌, List, length, map, string_bytes, IfOk, IfErr, IfSome, None};
 ghost use Rattle.capture_io.specs.ClassicCapture.{Record, IsCapture};
 ghost use Rattle.capture_io.specs.Header.{headers};
 ghost use Rattle.domino_compile.specs.Accepted.{IsAccepted};
 ghost use Rattle.switch_runner.specs.Causes.{ComesWhere};
-ghost use Rattle.switch_runner.specs.CommandLine.{AsksForHelp, IsRefused, request_with};
-ghost use Rattle.switch_runner.specs.Laws.{Because, CaptureAlways, IsComplete, Laws, ProgramAlways, ReadsAsked, Reports, StopsAtProgram, Tells, request, texts};
+ghost use Rattle.command_line.specs.CommandLine.{AsksForHelp, IsRefused, Request, request_with};
+ghost use Rattle.switch_runner.specs.Laws.{AskForNone, Because, CaptureAlways, IsComplete, Laws, Networks, ProgramAlways, ReadsAsked, Reports, StopsAtProgram, Tells, request, texts};
+ghost use Rattle.switch_runner.specs.Networks.{RanBy, RanIn, RanOn};
 ghost use Rattle.switch_runner.specs.Outside.{ChangesOnly, IsKept};
 ghost use Rattle.report_text.specs.PlanLines.{plan_text};
 ghost use Rattle.report_text.specs.Report.{report};
-ghost use Rattle.switch_runner.specs.Top.{AreWide, NoSource, NoHeaders, Ends, RunEnds, Serves};
+ghost use Rattle.switch_runner.specs.Top.{AreWide, NoSource, NoHeaders, Ends, RunEnds, Serves, words_of};
 
 use crate::block::Block;
-use crate::command_line::{Mode, asked};
-use crate::fabric::Fabric;
 use crate::limits::{MAX_CAPTURE, MAX_TEXT};
 use crate::line::write_line;
 use crate::outside::{Failed, Sink, Store};
 use crate::plan::write_plan;
-use crate::report::write_report;
+use crate::report::print_run;
 use crate::run::run_one;
 use crate::status::Status;
 use crate::transfer::read_whole;
 use capture_io::{Capture, read_capture};
+use command_line::{Mode, Request, asked};
+use compiled_run::run_serial;
 use domino_check::Checked;
 use domino_compile::{Compiled, compile};
-use mp5_words::FieldNames;
-use report_text::{Line, PlanText, labels_of};
+use mp5_words::{FieldNames, NoMemory};
+use report_text::{Line, PlanText};
 use std::alloc::Global;
+use std::sync::Wait;
+use switch_net::Fabric;
 
 /// Runs the program on the words of a command line, whose first word is the program's own name.
-pub fn switch_top<S: Store, K: Sink, F: Fabric>(
+pub fn switch_top<R: Wait, S: Store, K: Sink, F: Fabric>(
+    rt: &R,
     alloc: Global,
     words: &[String],
     store: &mut S,
@@ -59,61 +63,62 @@ pub fn switch_top<S: Store, K: Sink, F: Fabric>(
     ensures names { ReadsAsked words.now (S.seen store.old) (S.seen store.new) }
     ensures stops { StopsAtProgram words.now (S.seen store.old) (S.seen store.new) result }
 
-    // No mode runs a network yet, and standard error gains the one line of the answer.
-    ensures fabric { fabric.new ≡ fabric.old }
+    // A network is run in mode `serial` alone, for each answer that prints, and it is that of the request.
+    ensures fabric { AskForNone words.now → fabric.new ≡ fabric.old }
+    ensures networks { Networks words.now (S.seen store.old)
+        (F.seen fabric.old) (F.seen fabric.new) result }
+
+    // Standard error gains the one line of the answer.
     ensures err { Tells result (K.seen err.old) (K.seen err.new) }
 {
-    let _ = fabric;
-    let status = run_words(alloc, words, store, out);
+    let status = run_words(rt, alloc, words, store, out, fabric);
     tell(err, &status);
     status
 }
 
 /// Runs the program on the words, and tells nothing of the answer.
-fn run_words<S: Store, K: Sink>(
+fn run_words<R: Wait, S: Store, K: Sink, F: Fabric>(
+    rt: &R,
     alloc: Global,
     words: &[String],
     store: &mut S,
     out: &mut K,
+    fabric: &mut F,
 ) -> Status
     ensures laws { Laws words.now (S.seen store.old) (S.seen store.new)
-        (K.seen out.old) (K.seen out.new) result }
+        (K.seen out.old) (K.seen out.new) (F.seen fabric.old) (F.seen fabric.new) result }
     ensures untaken { request words.now ≡ None → (store.new ≡ store.old) × (out.new ≡ out.old) }
+    ensures fabric { AskForNone words.now → fabric.new ≡ fabric.old }
 {
     match asked(alloc, words) {
-        Ok(request) => serve(
-            alloc,
-            request.mode,
-            request.program,
-            request.capture,
-            store,
-            out,
-        ),
-        Err(status) => status,
+        Ok(request) => serve(rt, alloc, &request, store, out, fabric),
+        Err(fault) => Status::from(fault),
     }
 }
 
 /// Reads the program and the capture, and then does what the mode says.
-fn serve<S: Store, K: Sink>(
+fn serve<R: Wait, S: Store, K: Sink, F: Fabric>(
+    rt: &R,
     alloc: Global,
-    mode: Mode,
-    program: &str,
-    capture: &str,
+    request: &Request<'_>,
     store: &mut S,
     out: &mut K,
+    fabric: &mut F,
 ) -> Status
-    ensures { Serves (request_with mode program.now capture.now)
-        (S.seen store.old) (S.seen store.new) (K.seen out.old) (K.seen out.new) result }
+    ensures serves { Serves (words_of request.now)
+        (S.seen store.old) (S.seen store.new) (K.seen out.old) (K.seen out.new)
+        (F.seen fabric.old) (F.seen fabric.new) result }
+    ensures fabric { request.now.mode ≢ Mode.Serial → fabric.new ≡ fabric.old }
 {
-    let compiled = match read_source(alloc, store, program) {
+    let compiled = match read_source(alloc, store, request.program) {
         Ok(compiled) => compiled,
         Err(status) => return status,
     };
-    let headers = match read_headers(alloc, store, capture, compiled.source.field_names()) {
+    let headers = match read_headers(alloc, store, request.capture, compiled.source.field_names()) {
         Ok(headers) => headers,
         Err(status) => return status,
     };
-    run_and_print(alloc, mode, &compiled, headers, out)
+    run_and_print(rt, alloc, request, &compiled, headers, out, fabric)
 }
 
 /// Reads a program and compiles it.
@@ -144,20 +149,64 @@ fn read_headers<S: Store>(
 }
 
 /// Prints of the program and the headers what the mode prints.
-fn run_and_print<K: Sink>(
+fn run_and_print<R: Wait, K: Sink, F: Fabric>(
+    rt: &R,
     alloc: Global,
-    mode: Mode,
+    request: &Request<'_>,
     compiled: &Compiled,
     headers: Capture,
     out: &mut K,
+    fabric: &mut F,
 ) -> Status
     requires { AreWide (length compiled.now.program.packet.fields) headers }
-    ensures { RunEnds mode compiled.now.program headers
+    ensures ends { RunEnds request.now.mode compiled.now.program headers
         (K.seen out.old) (K.seen out.new) result }
+    ensures ran { RanIn request.now.mode (RanOn (words_of request.now).numbers
+        compiled.now.program headers) result (F.seen fabric.old) (F.seen fabric.new) }
+    ensures fabric { request.now.mode ≢ Mode.Serial → fabric.new ≡ fabric.old }
 {
-    match mode {
+    match request.mode {
         Mode::One => run_in_order(alloc, &compiled.source, headers, out),
         Mode::Plan => print_code(alloc, compiled, &headers, out),
+        Mode::Serial => run_network(rt, alloc, request, compiled, &headers, out, fabric),
+    }
+}
+
+/// Runs a network on the headers, and then writes the report of its answer.
+fn run_network<R: Wait, K: Sink, F: Fabric>(
+    rt: &R,
+    alloc: Global,
+    request: &Request<'_>,
+    compiled: &Compiled,
+    headers: &Capture,
+    out: &mut K,
+    fabric: &mut F,
+) -> Status
+    requires { AreWide (length compiled.now.program.packet.fields) headers.now }
+    ensures ends { Ends (report compiled.now.program headers.now)
+        (K.seen out.old) (K.seen out.new) result }
+    ensures ran { RanBy (RanOn (words_of request.now).numbers compiled.now.program headers.now)
+        result (F.seen fabric.old) (F.seen fabric.new) }
+{
+    let answer = run_serial(
+        rt,
+        alloc,
+        fabric,
+        compiled,
+        headers,
+        &request.settings,
+        request.seed,
+    );
+    match answer {
+        Ok(answer) => print_run(
+            alloc,
+            &compiled.source,
+            answer.arrivals,
+            &answer.packets,
+            &answer.cells,
+            out,
+        ),
+        Err(NoMemory) => Status::NoMemory,
     }
 }
 
@@ -166,26 +215,9 @@ fn run_in_order<K: Sink>(alloc: Global, checked: &Checked, headers: Capture, out
     requires { AreWide (length checked.now.packet.fields) headers }
     ensures { Ends (report checked.now headers) (K.seen out.old) (K.seen out.new) result }
 {
-    let Ok(end) = run_one(alloc, checked, headers) else {
-        return Status::NoMemory;
-    };
-    let Ok(labels) = labels_of(alloc, checked.field_names()) else {
-        return Status::NoMemory;
-    };
-    let Ok(block) = Block::new(alloc) else {
-        return Status::NoMemory;
-    };
-    match write_report(
-        block,
-        out,
-        end.count,
-        &labels,
-        &end.packets,
-        checked.arrays(),
-        &end.bench,
-    ) {
-        Ok(()) => Status::Done,
-        Err(Failed) => Status::WriteFault,
+    match run_one(alloc, checked, headers) {
+        Ok(end) => print_run(alloc, checked, end.count, &end.packets, &end.cells, out),
+        Err(NoMemory) => Status::NoMemory,
     }
 }
 

@@ -2,13 +2,13 @@ use Rattle.std.proofs.Common.{refl, sym, subst}
 use Rattle.domino_compile.specs.Compiled.{IsCompiled, Translation}
 use Rattle.report_text.specs.PlanLines.{plan_text}
 use Rattle.report_text.specs.Report.{report}
-use Rattle.switch_runner.specs.declared.command_line.Mode.{Mode}
+use Rattle.command_line.specs.declared.request.Mode.{Mode}
 use Rattle.switch_runner.specs.Causes.{IsTextOf}
 use Rattle.switch_runner.specs.Top.{Ends}
 use Rattle.switch_runner.proofs.top.run_and_print.Goals as goal
 
-pub returns-in-One : goal.returns-in-One
-returns-in-One g c =
+pub returns-in-One-clause-ends : goal.returns-in-One-clause-ends
+returns-in-One-clause-ends g c =
     let now = c.args.compiled.now in (
       report now.program c.args.headers,
       subst (λ (m : Mode). IsTextOf m now.program c.args.headers (report now.program c.args.headers)) (sym c.in-One.is) refl,
@@ -16,11 +16,19 @@ returns-in-One g c =
           c.run_in_order.ensures,
     )
 
-pub returns-in-Plan : goal.returns-in-Plan
-returns-in-Plan g c =
+pub returns-in-Plan-clause-ends : goal.returns-in-Plan-clause-ends
+returns-in-Plan-clause-ends g c =
     let now = c.args.compiled.now in
     let compiled : IsCompiled now.program now.code = subst (λ (t : Translation). IsCompiled t.program t.code) c.compiled.view_is c.compiled.invariant in (
       plan_text now.program now.code c.args.headers,
       subst (λ (m : Mode). IsTextOf m now.program c.args.headers (plan_text now.program now.code c.args.headers)) (sym c.in-Plan.is) (now.code, compiled, refl),
       c.print_code.ensures,
+    )
+
+pub returns-in-Serial-clause-ends : goal.returns-in-Serial-clause-ends
+returns-in-Serial-clause-ends g c =
+    let now = c.args.compiled.now in (
+      report now.program c.args.headers,
+      subst (λ (m : Mode). IsTextOf m now.program c.args.headers (report now.program c.args.headers)) (sym c.in-Serial.is) refl,
+      c.run_network.ensures.ends,
     )
