@@ -1,6 +1,8 @@
 -- The header run, and what stands at the end.
-use Rattle.std.proofs.Common.{◌≡◌, ℕ, ◌+◌, ◌-◌, ℤ, pos, Bool, true, if◌then◌else◌, List, [], ◌∷◌, ◌++◌, length, map, flat_map, fold, replicate, slice_set, Some, None, refl, sym, ap, subst, ◌∙◌, arith}
+use Rattle.std.proofs.Common.{◌≡◌, ℕ, ◌+◌, ◌-◌, ◌<◌, ◌≤◌, ℤ, pos, Bool, true, false, nat_lt, slice_index, if◌then◌else◌, List, [], ◌∷◌, ◌++◌, length, map, flat_map, fold, replicate, slice_set, Some, None, refl, sym, ap, subst, ◌∙◌, arith}
 use Rattle.std.specs.List.{list_any}
+use Rattle.std.proofs.lemmas.List.{get_or_past}
+use Rattle.std.proofs.lemmas.Bool.{ltb-true, ltb-false}
 use Rattle.code_forms.specs.declared.flat.Operand.{Operand}
 use Rattle.code_forms.specs.declared.flat.Instr.{Instr}
 use Rattle.code_forms.specs.declared.flat.Instr.TheVariants as instr
@@ -8,7 +10,7 @@ use Rattle.code_forms.specs.declared.parts.HeaderStep.{HeaderStep}
 use Rattle.code_forms.specs.declared.parts.StagedGroup.{StagedGroup}
 use Rattle.code_forms.specs.declared.spot.Spot.{Spot}
 use Rattle.code_forms.specs.FlatMeaning.{instr_value, flat_length}
-use Rattle.code_forms.specs.Staged.{Staged, slot_count, slot_of_index, operand_word, operand_slots, point, group_start, group_at, first_array, IsWritten, at_end, IsGroup, IsStaged}
+use Rattle.code_forms.specs.Staged.{Staged, slot_count, slot_of_index, operand_word, operand_slots, point, group_start, group_at, no_group, first_array, IsWritten, at_end, IsGroup, IsStaged}
 use Rattle.code_forms.specs.StagedMeaning.{no_loads, is_touching, header_step, header_words, unit_number, place_on, place_code, staged_values, Finishes}
 use Rattle.code_forms.specs.Spots.{spot_at, spot_value, spot_step, AreSpots}
 use Rattle.mp5_words.specs.Domain.{words}
@@ -75,3 +77,17 @@ pub first_slot : (c : Staged) (spots : List Spot) (g : ℕ) → AreSpots c spots
 first_slot c spots g are is =
     let first = first_member (group_at c g).arrays is.some in
     ap (λ (s : Spot). s.index) (are.each (first_array (group_at c g)) (is.there (first_array (group_at c g)) first).0)
+
+-- ---- the places of all groups
+
+-- there is none behind them
+no_place : (c : Staged) (words : List ℤ) (g : ℕ) → length c.groups ≤ g → place_code (place_on c words (group_at c g)) ≡ 0
+no_place c words g past = ap (λ x. place_code (place_on c words x)) (get_or_past c.groups g no_group past)
+
+pub all_places : (c : Staged) (words : List ℤ) (out : List ℕ) (n : ℕ) → length c.groups ≤ n → ((k : ℕ) → k < n → slice_index out k ≡ place_code (place_on c words (group_at c k))) → ((k : ℕ) → n ≤ k → k < 16 → slice_index out k ≡ 0)
+    → (g : ℕ) → g < 16 → slice_index out g ≡ place_code (place_on c words (group_at c g))
+all_places c words out n all each rest g less = by (nat_lt g n) refl
+  where
+    by : (b : Bool) → nat_lt g n ≡ b → slice_index out g ≡ place_code (place_on c words (group_at c g))
+    by true e = each g (ltb-true g n e)
+    by false e = let past = ltb-false g n e in rest g past less ∙ sym (no_place c words g (omega arith))

@@ -27,23 +27,13 @@ impl StagedCode {
     {
         lay_out(header, room);
         run_header(self.parts.header.as_slice(), self.spots.as_slice(), room);
-        for g in 0..16usize {
-            out[g] = self.place_at(g as u32, room);
+        *out = [0; 16];
+        for g in 0..self.groups() {
+            out[g as usize] = self.group_place(g, room);
         }
     }
 
     // The place at a group as a number, where the words of the header run are in the slots.
-    fn place_at(&self, g: u32, room: &[i32]) -> u32
-        ensures place { result ≡ place_code (place_on self.now room.now (group_at self.now g)) }
-        ensures rest { length self.now.groups ≤ g → result ≡ 0 }
-    {
-        if g < self.groups() {
-            self.group_place(g, room)
-        } else {
-            0
-        }
-    }
-
     fn group_place(&self, g: u32, room: &[i32]) -> u32
         requires { g < length self.now.groups }
         ensures { result ≡ place_code (place_on self.now room.now (group_at self.now g)) }

@@ -73,6 +73,7 @@ pub(crate) fn index_at(env: &[i32], slot: u32) -> u32
 }
 
 /// The word that an instruction gives on words in slots and the cells of a unit.
+#[inline(always)]
 pub(crate) fn value_of(instr: Instr, spots: &[Spot], env: &[i32], cells: &[i32]) -> i32
     requires { AreLengths spots.now }
     ensures { result ≡ spot_value spots.now cells.now env.now instr }

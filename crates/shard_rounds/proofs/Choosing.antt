@@ -138,6 +138,17 @@ totals_step totals os ls n h lt lt' small = record {
         let kept : slice_index (slice_set totals (slice_index os n) (slice_index totals (slice_index os n) + slice_index ls n)) p ≡ slice_index totals p = rw get_or-set_other refl in
         kept ∙ h.each p less ∙ sym (next p ∙ ap (λ b. total (take n os) (take n ls) p + cond b (slice_index ls n) 0) e ∙ add-zero (total (take n os) (take n ls) p))
 
+-- a unit without a load adds nothing
+pub totals_skip : (totals os ls : List ℕ) (n : ℕ) → TotalsAre totals os ls n → n < length os → n < length ls → slice_index ls n ≡ 0 → TotalsAre totals os ls (n + 1)
+totals_skip totals os ls n h lt lt' none = record {
+  size = h.size;
+  each = λ p less. h.each p less ∙ sym (ap (λ k. total (take k os) (take k ls) p) (add-one n) ∙ total_more os ls n p lt lt' ∙ by p (slice_index os n == p));
+}
+  where
+    by : (p : ℕ) (b : Bool) → total (take n os) (take n ls) p + cond b (slice_index ls n) 0 ≡ total (take n os) (take n ls) p
+    by p true = omega (arith, none)
+    by p false = omega arith
+
 -- the totals of all units
 pub totals_all : (totals os ls : List ℕ) (n : ℕ) → TotalsAre totals os ls n → length os ≤ n → length ls ≤ n → (p : ℕ) → p < 8 → slice_index totals p ≡ total os ls p
 totals_all totals os ls n h le le' p less = h.each p less ∙ (λ i. total (take_all n os le i) (take_all n ls le' i) p)
@@ -194,6 +205,22 @@ group_choice owners loads totals n g giver taker unit le size are m l u = record
 
     takes : IsFirstLeast n (total owners loads) taker
     takes = least_same totals n (total owners loads) taker le size are l
+
+-- with one pipe no unit goes
+pub lone_choice : (owners loads : List ℕ) (n g : ℕ) → 1 ≤ n → n < 2 → IsGroupChoice owners loads n g []
+lone_choice owners loads n g some one = record {
+  giver = 0;
+  taker = 0;
+  unit = None;
+  gives = record { within = omega arith; most = λ j lt. (let e : j ≡ 0 = omega arith in subst (λ k. total owners loads k ≤ total owners loads 0) (sym e) (omega arith)); first = λ j lt. absurd (omega arith) };
+  takes = record { within = omega arith; least = λ j lt. (let e : j ≡ 0 = omega arith in subst (λ k. total owners loads 0 ≤ total owners loads k) (sym e) (omega arith)); first = λ j lt. absurd (omega arith) };
+  chosen = λ u may. (let half = may.half in let loaded = may.loaded in let gap : total owners loads 0 - total owners loads 0 ≡ 0 = sub_self (total owners loads 0) in absurd (omega arith));
+  is = refl;
+}
+
+pub lone_all : (loads : List (List ℕ)) (o : OwnerTable) (n : ℕ) → o.pipelines ≡ 1 → IsChoiceBelow loads o n []
+lone_all loads o zero lone = refl
+lone_all loads o (suc n) lone = ([], [], lone_all loads o n lone, lone_choice (owners_of o n) (row_at loads n) o.pipelines n (omega (arith, lone)) (omega (arith, lone)), refl)
 
 -- ---- the owners of a group as a list
 

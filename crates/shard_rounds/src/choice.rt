@@ -52,7 +52,7 @@ const NO_MOVE: Move = Move {
     taker: 0,
 };
 
-// The move of one group, where a unit moves.
+// The move of one group, where a unit moves. None does where there is one pipe.
 fn choose_group(owners: &[u32], loads: &[u32], pipelines: u32, group: u32) -> Option<Move>
     requires some { 1 ≤ pipelines }
     requires pipelines { pipelines ≤ 8 }
@@ -62,6 +62,9 @@ fn choose_group(owners: &[u32], loads: &[u32], pipelines: u32, group: u32) -> Op
     requires size { length owners.now ≤ 65536 }
     ensures { IsGroupChoice owners.now loads.now pipelines group (option_to_list result) }
 {
+    if pipelines < 2 {
+        return None;
+    }
     let totals = totals_of(owners, loads);
     let giver = first_most(&totals[..pipelines as usize]);
     let taker = first_least(&totals[..pipelines as usize]);
@@ -87,6 +90,9 @@ fn totals_of(owners: &[u32], loads: &[u32]) -> [u32; 8]
 {
     let mut totals = [0; 8];
     for u in 0..owners.len() {
+        if loads[u] == 0 {
+            continue;
+        }
         totals[owners[u] as usize] += loads[u];
     }
     totals
@@ -131,7 +137,7 @@ fn best_unit(owners: &[u32], loads: &[u32], giver: u32, gap: u32) -> Option<u32>
     let mut best = None;
     let mut most = 0;
     for u in 0..owners.len() {
-        if owners[u] == giver && loads[u] > most && loads[u] <= gap / 2 {
+        if loads[u] > most && owners[u] == giver && loads[u] <= gap / 2 {
             best = Some(u as u32);
             most = loads[u];
         }

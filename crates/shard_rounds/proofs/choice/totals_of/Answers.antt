@@ -1,5 +1,5 @@
 use Rattle.std.proofs.Common.{arith}
-use Rattle.shard_rounds.proofs.Choosing.{totals_fit, totals_step, totals_all}
+use Rattle.shard_rounds.proofs.Choosing.{totals_fit, totals_step, totals_skip, totals_all}
 use Rattle.shard_rounds.proofs.choice.totals_of.Goals as goal
 
 pub overflow_add-totals : goal.overflow_add-totals
@@ -13,3 +13,6 @@ loop-u-preserved c =
 
 pub returns-clause-totals : goal.returns-clause-totals
 returns-clause-totals c = totals_all c.loop-u.totals c.args.owners.now c.args.loads.now c.loop-u.u c.loop-u.invariant (omega arith) (omega arith)
+
+pub loop-u-preserved-then-loads-u-eq0 : goal.loop-u-preserved-then-loads-u-eq0
+loop-u-preserved-then-loads-u-eq0 c = totals_skip c.loop-u.totals c.args.owners.now c.args.loads.now c.loop-u.u c.loop-u.invariant c.loop-u-test.true (omega arith) c.if-loads-u-eq0.true

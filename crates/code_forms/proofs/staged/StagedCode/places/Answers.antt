@@ -4,7 +4,7 @@ use Rattle.code_forms.specs.Staged.{Staged, group_at}
 use Rattle.code_forms.specs.StagedMeaning.{header_words, place_on, place_code, HasUnits, PlacesAreIndexes}
 use Rattle.code_forms.specs.Spots.{AreLengths, AreSpots, spot_step}
 use Rattle.code_forms.proofs.RunningLemmas.{lengths_fit}
-use Rattle.code_forms.proofs.PlaceLemmas.{header_run}
+use Rattle.code_forms.proofs.PlaceLemmas.{header_run, all_places}
 use Rattle.code_forms.proofs.UnitLemmas.{has_units}
 use Rattle.code_forms.proofs.staged.StagedCode.places.Goals as goal
 
@@ -21,8 +21,7 @@ returns-clause-places c =
     header_run code c.self.inside.spots c.as_slice-2.result.now c.as_slice.result.now c.args.header.now (length c.args.room.now) c.run_header.new.room table
     c.requires.header c.requires.room c.as_slice-2.ensures steps (c.run_header.ensures ∙ ap (λ (r : List ℤ). fold (spot_step c.as_slice-2.result.now) r c.as_slice.result.now) c.lay_out.ensures) in
     λ g less.
-    let before : g < c.loop-g.g = omega (arith, less, c.loop-g-test.false) in
-    c.loop-g.invariant.1 g before ∙ ap (λ (r : List ℤ). place_code (place_on code r (group_at code g))) room
+    all_places code c.run_header.new.room c.loop-g.out c.loop-g.g (omega arith) c.loop-g.invariant.1 c.loop-g.invariant.2 g less ∙ ap (λ (r : List ℤ). place_code (place_on code r (group_at code g))) room
 
 pub returns-clause-indexes : goal.returns-clause-indexes
 returns-clause-indexes c = subst PlacesAreIndexes c.self.view_is c.self.invariant.places
@@ -31,3 +30,6 @@ pub returns-clause-units : goal.returns-clause-units
 returns-clause-units c =
     subst (λ (s : Staged). length c.args.header.now ≡ s.fields → HasUnits s c.args.header.now) c.self.view_is
     (has_units _ c.args.header.now c.self.invariant.staged c.self.invariant.places) c.requires.header
+
+pub returns-clause-rest : goal.returns-clause-rest
+returns-clause-rest c g past less = c.loop-g.invariant.2 g (omega arith) less
