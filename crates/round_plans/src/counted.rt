@@ -65,6 +65,13 @@ impl<'a> CountedRun<'a> {
         })
     }
 
+    /// How many pipes the run has.
+    pub(crate) fn pipelines(&self) -> u32
+        ensures { result ≡ self.now.run.settings.pipelines }
+    {
+        self.settings.pipelines
+    }
+
     /// The last round.
     pub(crate) fn last_round(&self) -> u32
         ensures last { result ≡ last_round self.now.run }

@@ -1,10 +1,10 @@
 //! The planner.
-ghost use Rattle.std.specs.Prelude.{◌≡◌, ◌<◌, ◌≤◌, ◌↔◌, [], ◌∷◌, ◌++◌, length, map, IfOk, IsTrue, All, vec_capacity};
+ghost use Rattle.std.specs.Prelude.{◌≡◌, ◌<◌, ◌≤◌, ◌↔◌, [], ◌∷◌, ◌++◌, length, map, take, IfOk, IsTrue, All, vec_capacity};
 ghost use Rattle.code_forms.specs.Staged.{unit_count};
-ghost use Rattle.shard_rounds.specs.Rounds.{AreUnits};
+ghost use Rattle.shard_rounds.specs.Rounds.{AreUnits, IsPlan};
 ghost use Rattle.run_laws.specs.Run.{last_round};
 ghost use Rattle.run_laws.specs.LawfulPlans.{AreLawful, owners_after};
-ghost use Rattle.round_plans.specs.Planning.{no_plans};
+ghost use Rattle.round_plans.specs.Planning.{no_plans, IsPlanner, IsNextChoice};
 
 use crate::counted::CountedRun;
 use capture_io::Capture;
@@ -77,7 +77,8 @@ impl<'a> Planner<'a> {
     }
 
     /// Decides the next plan and writes its moves into `plan`, which has room for them. Counts the places of
-    /// the arrivals that it looks at, so all plans together look at each arrival once. Takes no memory.
+    /// the arrivals that it looks at, so all plans together look at each arrival once; at none, where there is
+    /// one pipe. Takes no memory.
     pub fn decide(&mut self, plan: &mut Plan)
         requires more { length self.old.plans < last_round self.old.run }
         requires empty { plan.old.moves.items ≡ [] }
@@ -87,13 +88,30 @@ impl<'a> Planner<'a> {
         ensures lawful { AreLawful self.new.run self.new.plans }
         ensures room { vec_capacity plan.old.moves ≤ vec_capacity plan.new.moves }
     {
-        let end = self.run.round_start(self.owners.applied());
-        self.run.count_to(end);
         let mut moves = [NO_MOVE; 16];
-        let count = choose_into(self.run.loads(), &self.owners, &mut moves);
+        let count = choose(&mut self.run, &self.owners, &mut moves);
         fill(plan, &moves[..count]);
         self.owners.apply(plan);
     }
+}
+
+// Chooses the moves of the next plan into room, and gives their number. Counts the places of the arrivals that
+// the choice looks at. With one pipe nothing moves, whatever the places are.
+fn choose(run: &mut CountedRun<'_>, owners: &Owners, room: &mut [Move; 16]) -> usize
+    requires planner { IsPlanner run.old owners.now }
+    requires more { length owners.now.plans < last_round run.old.run }
+    ensures count { result ≤ 16 }
+    ensures run { run.new.run ≡ run.old.run }
+    ensures planner { IsPlanner run.new owners.now }
+    ensures choice { IsNextChoice run.old.run owners.now (take result room.new) }
+    ensures plan { IsPlan owners.now (take result room.new) }
+{
+    if run.pipelines() == 1 {
+        return 0;
+    }
+    let end = run.round_start(owners.applied());
+    run.count_to(end);
+    choose_into(run.loads(), owners, room)
 }
 
 // What stands in room that is not yet filled.
