@@ -126,3 +126,25 @@ one_event s new laws after queues (leave g done) =
 pub one_turn : (t : Turn) (s new : Pipe) → IsPipe s → IsPipe new → HasQueues s → (t ≡ Did → IsOneEvent s new) → (t ≡ Idle → new ≡ s) → Turned s new
 one_turn Did s new laws after queues did kept = one_event s new laws after queues (did refl)
 one_turn Idle s new laws after queues did kept = beside_turned s new s queues (kept refl) refl refl refl refl refl (same_rows s.row s.row refl)
+
+-- ---- own events one after another
+
+-- none was done
+pub turns_none : (s : Pipe) → Turns s s
+turns_none s = record { same = record { run = refl; pipe = refl; owners = refl }; count = refl; floors = λ p g there. refl; told = λ q within. refl }
+
+-- and one more
+pub turns_more : (s mid new : Pipe) → Turns s mid → Turns mid new → Turns s new
+turns_more s mid new first more =
+    let same = more.same in
+    let before = first.same in
+    let count = more.count in
+    record {
+      same = record { run = same.run ∙ before.run; pipe = same.pipe ∙ before.pipe; owners = same.owners ∙ before.owners };
+      count = count ∙ first.count;
+      floors = λ p g there. more.floors p g there ∙ first.floors p g (omega arith);
+      told = λ q within.
+          (let one = first.told q within in
+          let two = more.told q (subst (λ (r : Rattle.run_laws.specs.Run.Run). q < r.settings.pipelines) (sym before.run) within) in
+          omega arith);
+    }

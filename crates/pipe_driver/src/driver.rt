@@ -8,7 +8,7 @@ ghost use Rattle.pipe_driver.specs.Driver.{IsDriver, IsNewWorker, IsSamePipe};
 
 use crate::hearing::hear_all;
 use crate::telling::tell_all;
-use crate::turning::turn;
+use crate::turning::turns;
 use mp5_words::NoMemory;
 use pipe_messages::Message;
 use pipe_worker::Pipe;
@@ -53,15 +53,14 @@ impl<'a> Driver<'a> {
         })
     }
 
-    /// One turn: takes in what came over the lanes and for which there is room, does one own
-    /// event, if one is ready, and sends what waits, as far as the lanes have room. Takes no
-    /// memory.
+    /// One turn: takes in what came over the lanes and for which there is room, does own events
+    /// while one is ready, and sends what waits, as far as the lanes have room. Takes no memory.
     pub fn part<R: Wait>(&mut self, rt: &R)
         ensures { IsSamePipe self.old.worker.pipe self.new.worker.pipe }
     {
         let worker = &mut self.worker;
         hear_all(rt, &mut worker.pipe, &mut worker.from, &mut self.held);
-        turn(&mut worker.pipe);
+        turns(&mut worker.pipe);
         tell_all(rt, &mut worker.pipe, &mut worker.to, &mut self.unsent);
     }
 

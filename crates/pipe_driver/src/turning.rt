@@ -3,7 +3,7 @@ ghost use Rattle.std.specs.Prelude.{◌≡◌};
 ghost use Rattle.pipe_driver.specs.Driver.{HasQueues};
 ghost use Rattle.pipe_driver.specs.Turning.{Turns};
 
-use pipe_worker::Pipe;
+use pipe_worker::{Pipe, Turn};
 
 // How many pipes there are, of which there are few.
 pub(crate) fn pipes(pipe: &Pipe<'_>, lanes: usize) -> u32
@@ -15,14 +15,31 @@ pub(crate) fn pipes(pipe: &Pipe<'_>, lanes: usize) -> u32
     lanes as u32
 }
 
-// Does one own event, if one is ready.
-pub(crate) fn turn(pipe: &mut Pipe<'_>)
+// The most own events between two looks at the lanes.
+const MOST: u32 = 256;
+
+// Does own events while one is ready.
+pub(crate) fn turns(pipe: &mut Pipe<'_>)
+    requires { HasQueues pipe.old }
+    ensures turns { Turns pipe.old pipe.new }
+    ensures queues { HasQueues pipe.new }
+{
+    for _ in 0..MOST {
+        if !turn(pipe) {
+            return;
+        }
+    }
+}
+
+// Does one own event, if one is ready, and tells whether it did.
+fn turn(pipe: &mut Pipe<'_>) -> bool
     requires { HasQueues pipe.old }
     ensures turns { Turns pipe.old pipe.new }
     ensures queues { HasQueues pipe.new }
 {
     // a pipe's laws, before the event and after it
     prove!(pipe.exit().entered() == pipe.entered());
-    let _ = pipe.turn();
+    let done = pipe.turn();
     prove!(pipe.exit().entered() == pipe.entered());
+    done == Turn::Did
 }
