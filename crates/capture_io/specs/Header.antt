@@ -49,10 +49,11 @@ port past ip = if has_ports ip then number_at 2 (header_len ip + past) ip else 0
 abbrev pub arrival : ℕ → Record → ℤ
 arrival start r = int_rem_euclid (pos r.timestamp -ℤ pos start) (pos (2 ^ 31))
 
--- where the values of fields are read, and the name of the field that is read there
+-- where the values of fields are read
 abbrev pub filled : List Source
 filled = Arrival ∷ OriginalLength ∷ TypeOfService ∷ TimeToLive ∷ Protocol ∷ SourceAddress ∷ DestinationAddress ∷ SourcePort ∷ DestinationPort ∷ []
 
+-- the name of the field that is read there; no name where none is
 abbrev pub name_of : Source → List ℕ
 name_of Arrival = codes "arrival"
 name_of OriginalLength = codes "len"

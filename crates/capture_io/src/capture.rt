@@ -1,7 +1,8 @@
-//! What was read of a capture.
+//! The packets of a capture.
 
-ghost use Rattle.std.specs.Prelude.{◌≡◌, ◌<◌, ◌≤◌, length, slice_get, Some};
+ghost use Rattle.std.specs.Prelude.{◌≡◌, ◌<◌, ◌≤◌, ◌*◌, length, slice_get, Some};
 ghost use Rattle.std.specs.List.{flat_map};
+ghost use Rattle.capture_io.specs.Rows.{rows};
 
 use crate::limits::MAX_RECORDS;
 use std::marker::Model;
@@ -29,6 +30,20 @@ impl Model for Capture {
 }
 
 impl Capture {
+    /// The packets that have these words as their fields, one packet's after another's.
+    pub fn of(count: u32, fields: u32, words: Vec<i32>) -> Capture
+        requires packets { count ≤ MAX_RECORDS }
+        requires width { fields ≤ 32 }
+        requires words { length words.items ≡ count * fields }
+        ensures { result ≡ rows count fields words.items }
+    {
+        Capture {
+            words,
+            width: fields,
+            packets: count,
+        }
+    }
+
     /// How many packets there are.
     pub fn count(&self) -> u32
         ensures count { result ≡ length self.now }

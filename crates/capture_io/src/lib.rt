@@ -17,6 +17,7 @@ pub use capture::Capture;
 pub use fault::CaptureFault;
 pub use limits::{FILE_HEADER_LEN, MAX_CAPTURE, MAX_FRAME, MAX_RECORDS, RECORD_HEADER_LEN};
 pub use reading::read_capture;
+pub use source::{Source, sources_of};
 
 #[cfg(test)]
 mod tests;
