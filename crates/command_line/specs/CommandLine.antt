@@ -13,7 +13,7 @@ use Rattle.clap.specs.declared.parser.matches.Found.{Found}
 use Rattle.mp5_words.specs.declared.settings.Settings.{Settings}
 use Rattle.mp5_words.specs.declared.settings.TheConstants.{MAX_PIPELINES, MAX_WINDOW, MAX_ROUND}
 use Rattle.command_line.specs.declared.request.Mode.{Mode}
-use Rattle.command_line.specs.declared.request.Mode.TheVariants.{One, Plan, Serial}
+use Rattle.command_line.specs.declared.request.Mode.TheVariants.{One, Plan, Run, Serial}
 use Rattle.command_line.specs.declared.request.WordsFault.{WordsFault}
 use Rattle.command_line.specs.declared.request.WordsFault.TheVariants as fault
 
@@ -107,7 +107,8 @@ numbers_of pipelines window round seed = numbers_in (number_in pipelines) (numbe
 abbrev pub mode_of : Text → Option Mode
 mode_of name = if bytes_eq name (codes "one") then Some One
     else (if bytes_eq name (codes "plan") then Some Plan
-    else (if bytes_eq name (codes "serial") then Some Serial else None))
+    else (if bytes_eq name (codes "serial") then Some Serial
+    else (if bytes_eq name (codes "run") then Some Run else None)))
 
 -- the capture is the name of a file: one that begins with `gen:` can't be made yet
 abbrev pub is_file : Text → Bool

@@ -8,8 +8,10 @@ pub enum Mode {
     One,
     /// Not at all: what is told is the program's code, and where each header has its places.
     Plan,
-    /// On a switch of several pipelines.
+    /// On a switch of several pipelines, which take turns on one thread.
     Serial,
+    /// On a switch of several pipelines, each on a thread of its own.
+    Run,
 }
 
 /// What the words ask for: how to run, the names of the two files, and the numbers of a switch.

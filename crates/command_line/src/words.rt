@@ -124,6 +124,7 @@ fn mode_of(name: &str) -> Option<Mode>
         "one" => Some(Mode::One),
         "plan" => Some(Mode::Plan),
         "serial" => Some(Mode::Serial),
+        "run" => Some(Mode::Run),
         _ => None,
     }
 }
@@ -193,6 +194,7 @@ mod tests {
             ("mp5 one p c", Mode::One, "p", "c"),
             ("mp5 plan p c", Mode::Plan, "p", "c"),
             ("mp5 serial p c", Mode::Serial, "p", "c"),
+            ("mp5 run p c", Mode::Run, "p", "c"),
             ("--help one p c", Mode::One, "p", "c"),
             (" one p c", Mode::One, "p", "c"),
             ("mp5 one one one", Mode::One, "one", "one"),
@@ -304,7 +306,7 @@ mod tests {
             "|mp5|mp5 one|mp5 one p|mp5 serial|mp5 serial p|mp5 one p c d|mp5 one p c |mp5 help",
             // No mode, and a capture that would have to be made.
             "mp5 two p c|mp5 One p c|mp5 on p c|mp5 ones p c|mp5  p c|mp5 p one c|mp5 Plan p c",
-            "mp5 pla p c|mp5 plans p c|mp5 Serial p c|mp5 seria p c|mp5 serials p c",
+            "mp5 pla p c|mp5 plans p c|mp5 Serial p c|mp5 seria p c|mp5 serials p c|mp5 Run p c|mp5 runs p c",
             "mp5 one p gen:1:1|mp5 one p gen:|mp5 one -- p gen:x|mp5 serial p gen:1:1 --seed 3",
             // Unknown options.
             "mp5 --hel|mp5 --Help|mp5 ---help|mp5 one -p c|mp5 one p -c|mp5 one p -1",

@@ -1,5 +1,5 @@
 -- The answer of a run over compiled code is that of its source, and so is the run's mark.
-use Rattle.std.proofs.Common.{◌≡◌, ◌∙◌, ℕ, ◌*◌, ◌<◌, ℤ, List, length, Some, sym, ap, subst, arith}
+use Rattle.std.proofs.Common.{◌≡◌, ◌∙◌, ℕ, ◌*◌, ◌<◌, ℤ, List, length, Option, sym, ap, subst, arith}
 use Rattle.std.specs.Prelude.{All, sum}
 use Rattle.std.proofs.lemmas.List.{take_all}
 use Rattle.mp5_words.specs.declared.settings.Settings.{Settings}
@@ -42,11 +42,11 @@ module _ (p : Program) (c : Staged) (headers : List (List ℤ)) (settings : Sett
   }
 
   -- and has the mark of that answer
-  source_run : (a : Answer) (seed : ℕ) → IsAnswer (run_of c headers settings) a → mark_of (run_of c headers settings) (Some seed) a ≡ source_mark p c headers settings seed
+  source_run : (a : Answer) (seed : Option ℕ) → IsAnswer (run_of c headers settings) a → mark_of (run_of c headers settings) seed a ≡ source_mark p c headers settings seed
   source_run a seed answers =
       let of_source : IsSourceAnswer p headers a = source_answer a answers in
       λ i. record {
-        seed = Some seed;
+        seed = seed;
         settings = settings;
         arrivals = of_source.count i;
         packets = word_sum (of_source.packets i);
@@ -73,6 +73,6 @@ module _ (v t : Translation) (headers : List (List ℤ)) (settings : Settings) (
   pub compiled_answer : IsSourceAnswer t.program headers a
   compiled_answer = source_answer t.program t.code headers settings is as_wide a its_answer
 
-  pub compiled_mark : (seed given : ℕ) (old new : Runs) → given ≡ seed → HasRun (mark_of run (Some given) a) old new → HasRun (source_mark t.program t.code headers settings seed) old new
+  pub compiled_mark : (seed given : Option ℕ) (old new : Runs) → given ≡ seed → HasRun (mark_of run given a) old new → HasRun (source_mark t.program t.code headers settings seed) old new
   compiled_mark seed given old new kept has =
-      subst (λ (m : Mark). HasRun m old new) ((λ i. mark_of (same i) (Some (kept i)) a) ∙ source_run t.program t.code headers settings is as_wide a seed its_answer) has
+      subst (λ (m : Mark). HasRun m old new) ((λ i. mark_of (same i) (kept i) a) ∙ source_run t.program t.code headers settings is as_wide a seed its_answer) has

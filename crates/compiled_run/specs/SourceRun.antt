@@ -1,5 +1,5 @@
 -- What a run over compiled code answers: what the source's sequential run ends with; and the mark of that run.
-use Rattle.std.specs.Prelude.{◌≡◌, ℕ, ℤ, List, length, flat_map, sum, Some}
+use Rattle.std.specs.Prelude.{◌≡◌, ℕ, ℤ, List, length, flat_map, sum, Option}
 use Rattle.mp5_words.specs.declared.settings.Settings.{Settings}
 use Rattle.domino_tree.specs.declared.program.Program.{Program}
 use Rattle.domino_tree.specs.Sequential.{one}
@@ -24,10 +24,10 @@ pub record IsSourceAnswer (p : Program) (headers : List (List ℤ)) (a : Answer)
   pub packets : a.packets.items ≡ packet_words p headers
   pub cells : a.cells.items ≡ cell_words p headers
 
--- the mark of a run of the code, in an order that a seed names, with that answer
-abbrev pub source_mark : Program → Staged → List (List ℤ) → Settings → ℕ → Mark
+-- the mark of a run of the code with that answer, and with the seed of its order, where it has one
+abbrev pub source_mark : Program → Staged → List (List ℤ) → Settings → Option ℕ → Mark
 source_mark p c headers settings seed = record {
-  seed = Some seed;
+  seed = seed;
   settings = settings;
   arrivals = length headers;
   packets = word_sum (packet_words p headers);

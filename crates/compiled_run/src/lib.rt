@@ -1,9 +1,11 @@
 //! Compiled code run on a network of pipes, as its source.
 //!
-//! `run_serial` runs the code of a program on a capture's headers, on one thread. It answers the packets and the cells of the
-//! program's transaction, executed on one header after another.
+//! `run` runs the code of a program on a capture's headers with a thread for each pipe, and `run_serial` on one thread. Both
+//! answer the packets and the cells of the program's transaction, executed on one header after another.
 #![tactic(auto)]
 
+mod parallel;
 mod serial;
 
+pub use parallel::run;
 pub use serial::run_serial;

@@ -1,5 +1,5 @@
 //! The run of a network over compiled code.
-ghost use Rattle.std.specs.Prelude.{◌≡◌, length, All, IfOk, IfErr};
+ghost use Rattle.std.specs.Prelude.{◌≡◌, length, All, Some, IfOk, IfErr};
 ghost use Rattle.switch_net.specs.Marks.{HasRun};
 ghost use Rattle.compiled_run.specs.SourceRun.{IsSourceAnswer, source_mark};
 
@@ -25,7 +25,7 @@ pub fn run_serial<R: Wait, F: Fabric>(
         capture.now }
     ensures answer { IfOk result (IsSourceAnswer compiled.now.program capture.now) }
     ensures run { IfOk result (λ a. HasRun
-        (source_mark compiled.now.program compiled.now.code capture.now settings.now seed)
+        (source_mark compiled.now.program compiled.now.code capture.now settings.now (Some seed))
         (F.seen fabric.old) (F.seen fabric.new)) }
     ensures none { IfErr result (λ e. fabric.new ≡ fabric.old) }
 {

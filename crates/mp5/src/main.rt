@@ -4,7 +4,7 @@
 use std::env;
 use std::io::ErrorKind;
 use std::process::ExitCode;
-use switch_runner::{FileStore, OutSink, Status, Threads, switch_top};
+use switch_runner::{FileStore, OpenGate, OutSink, Status, Threads, switch_top};
 
 /// The words of the command line: no words where one of them isn't UTF-8, and nothing where memory ran
 /// out.
@@ -25,7 +25,7 @@ fn main(rt: HostRuntime) -> ExitCode {
     let mut out = OutSink::output(rt.stdout());
     let mut err = OutSink::errors(rt.stderr());
     let mut store = FileStore::new(rt);
-    let mut fabric = Threads::new();
+    let mut fabric = Threads::new(&OpenGate);
     let status = switch_top(
         &rt,
         alloc,

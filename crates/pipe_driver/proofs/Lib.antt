@@ -4,3 +4,4 @@ pub mod HearLemmas
 pub mod TellLemmas
 pub mod TurnLemmas
 pub mod DriverLemmas
+pub mod Crossing

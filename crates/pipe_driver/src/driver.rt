@@ -54,14 +54,16 @@ impl<'a> Driver<'a> {
     }
 
     /// One turn: takes in what came over the lanes and for which there is room, does own events
-    /// while one is ready, and sends what waits, as far as the lanes have room. Takes no memory.
-    pub fn part<R: Wait>(&mut self, rt: &R)
+    /// while one is ready, and sends what waits, as far as the lanes have room. Tells whether it
+    /// did an own event. Takes no memory.
+    pub fn part<R: Wait>(&mut self, rt: &R) -> bool
         ensures { IsSamePipe self.old.worker.pipe self.new.worker.pipe }
     {
         let worker = &mut self.worker;
         hear_all(rt, &mut worker.pipe, &mut worker.from, &mut self.held);
-        turns(&mut worker.pipe);
+        let did = turns(&mut worker.pipe);
         tell_all(rt, &mut worker.pipe, &mut worker.to, &mut self.unsent);
+        did
     }
 
     /// Learns the next plan of the run. Takes no memory.

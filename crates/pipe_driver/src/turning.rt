@@ -18,17 +18,20 @@ pub(crate) fn pipes(pipe: &Pipe<'_>, lanes: usize) -> u32
 // The most own events between two looks at the lanes.
 const MOST: u32 = 256;
 
-// Does own events while one is ready.
-pub(crate) fn turns(pipe: &mut Pipe<'_>)
+// Does own events while one is ready, and tells whether it did one.
+pub(crate) fn turns(pipe: &mut Pipe<'_>) -> bool
     requires { HasQueues pipe.old }
     ensures turns { Turns pipe.old pipe.new }
     ensures queues { HasQueues pipe.new }
 {
+    let mut did = false;
     for _ in 0..MOST {
         if !turn(pipe) {
-            return;
+            return did;
         }
+        did = true;
     }
+    true
 }
 
 // Does one own event, if one is ready, and tells whether it did.

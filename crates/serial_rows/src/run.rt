@@ -11,13 +11,28 @@ use mp5_words::{FieldNames, Settings};
 use std::alloc::Global;
 use std::fmt::Write;
 use std::sync::Wait;
-use switch_net::{Answer, Network};
+use std::thread::Threads;
+use switch_net::{Answer, Ended, Network, OpenGate};
+
+/// How a network is run.
+#[derive(Clone, Copy, Debug)]
+pub enum Way {
+    /// On one thread, in an order that a seed names.
+    Serial(u32),
+    /// With a thread for each pipe.
+    Parallel,
+}
 
 /// What a row gives: the fields of each packet, each with a comma behind it, and after a bar the cells.
-pub fn answer_to<R: Wait>(rt: &R, alloc: Global, row: &Row<'_>) -> Result<String, Trouble> {
+pub fn answer_to<R: Threads + Wait + Sync>(
+    rt: &R,
+    alloc: Global,
+    row: &Row<'_>,
+    way: Way,
+) -> Result<String, Trouble> {
     let settings = settings_of(row.numbers)?;
     let compiled = compiled_of(alloc, row.text)?;
-    answer_of(rt, alloc, &compiled, row, &settings)
+    answer_of(rt, alloc, &compiled, row, &settings, way)
 }
 
 // The settings of a row.
@@ -37,22 +52,16 @@ fn compiled_of(alloc: Global, text: &str) -> Result<Compiled, Trouble> {
 }
 
 // What the code gives on a row's packets.
-fn answer_of<R: Wait>(
+fn answer_of<R: Threads + Wait + Sync>(
     rt: &R,
     alloc: Global,
     compiled: &Compiled,
     row: &Row<'_>,
     settings: &Settings,
+    way: Way,
 ) -> Result<String, Trouble> {
     let capture = packets_of(alloc, row.packets, compiled.source.field_names())?;
-    run(
-        rt,
-        alloc,
-        &compiled.code,
-        &capture,
-        settings,
-        row.numbers[3],
-    )
+    run(rt, alloc, &compiled.code, &capture, settings, way)
 }
 
 // A row's packets.
@@ -70,45 +79,53 @@ fn headers_of(alloc: Global, bytes: &[u8], names: &FieldNames) -> Result<Capture
 }
 
 // Runs the code on the capture.
-fn run<R: Wait>(
+fn run<R: Threads + Wait + Sync>(
     rt: &R,
     alloc: Global,
     code: &StagedCode,
     capture: &Capture,
     settings: &Settings,
-    seed: u32,
+    way: Way,
 ) -> Result<String, Trouble> {
     if is_wide(code.fields(), capture) {
-        run_network(rt, alloc, code, capture, settings, seed)
+        run_network(rt, alloc, code, capture, settings, way)
     } else {
         Err(Trouble::Row)
     }
 }
 
 // Runs the code on headers that have a word for each field.
-fn run_network<R: Wait>(
+fn run_network<R: Threads + Wait + Sync>(
     rt: &R,
     alloc: Global,
     code: &StagedCode,
     capture: &Capture,
     settings: &Settings,
-    seed: u32,
+    way: Way,
 ) -> Result<String, Trouble>
     requires { All (λ header. length header ≡ code.now.fields) capture.now }
 {
     let network = Network::build(rt, alloc, code, capture, settings)?;
-    told(rt, alloc, network, seed)
+    told(rt, alloc, network, way)
 }
 
 // Runs a network, and tells its answer.
-fn told<R: Wait>(
+fn told<R: Threads + Wait + Sync>(
     rt: &R,
     alloc: Global,
     network: Network<'_>,
-    seed: u32,
+    way: Way,
 ) -> Result<String, Trouble> {
-    let ended = network.run_serial(rt, u64::from(seed));
+    let ended = ended(rt, network, way);
     text_of(alloc, &ended.answer)
+}
+
+// Runs a network.
+fn ended<'a, R: Threads + Wait + Sync>(rt: &R, network: Network<'a>, way: Way) -> Ended<'a> {
+    match way {
+        Way::Serial(seed) => network.run_serial(rt, u64::from(seed)),
+        Way::Parallel => network.run(rt, &OpenGate),
+    }
 }
 
 // Whether each header has so many words.

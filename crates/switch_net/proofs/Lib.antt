@@ -3,3 +3,4 @@ pub mod EndLemmas
 pub mod MoveLemmas
 pub mod MarkLemmas
 pub mod LaneLemmas
+pub mod RunLemmas

@@ -8,11 +8,15 @@
 mod answer;
 mod building;
 mod fabric;
+mod gate;
 mod network;
+mod parallel;
 mod planning;
 mod serial;
+mod watch;
 
 pub use answer::Answer;
-pub use fabric::{Fabric, Mark, Threads};
+pub use fabric::{Fabric, Mark, Ran, Threads};
+pub use gate::{Gate, OpenGate};
 pub use network::{Ended, Network};
 pub use switch_worker::Worker;

@@ -11,6 +11,8 @@ ghost use Rattle.switch_net.specs.Driving.{AreDrivers, HaveStopped};
 
 use crate::answer::{Answer, with_room};
 use crate::building::drivers;
+use crate::gate::Gate;
+use crate::parallel::run_phases;
 use crate::serial::run_passes;
 use capture_io::Capture;
 use code_forms::StagedCode;
@@ -23,6 +25,7 @@ use shard_rounds::Owners;
 use std::alloc::Global;
 use std::marker::Model;
 use std::sync::Wait;
+use std::thread::Threads;
 use switch_worker::Worker;
 
 /// A switch before its run: its pipes with a lane from each to each, and all memory that the run takes. Seen as the run.
@@ -86,6 +89,30 @@ impl<'a> Network<'a> {
         ensures { result ≡ self.now.settings }
     {
         self.run.settings
+    }
+
+    /// Runs the pipes beside each other, each in a thread of its own, until each has finished. Before each turn a pipe asks the
+    /// gate. The answer doesn't depend on what the gate says, nor on how the threads run. Takes no memory but for its threads.
+    pub fn run<R: Threads + Wait + Sync, G: Gate + Sync>(self, rt: &R, gate: &G) -> Ended<'a>
+        ensures { IsEnded self.entry result }
+    {
+        let Network {
+            run,
+            mut planner,
+            mut drivers,
+            mut answer,
+            workers,
+        } = self;
+        let round = run.settings.round;
+        run_phases(
+            rt,
+            gate,
+            &mut planner,
+            &mut drivers,
+            &mut answer.plans,
+            round,
+        );
+        end(&run, planner.owners(), drivers, answer, workers)
     }
 
     /// Runs the pipes on one thread until each has finished, in an order that the seed names. The answer doesn't depend on it.

@@ -46,7 +46,7 @@ pub(crate) fn run_passes<R: Wait>(
 }
 
 // Whether all plans are decided and all pipes have finished.
-fn is_done(planner: &Planner<'_>, drivers: &[Driver<'_>]) -> bool
+pub(crate) fn is_done(planner: &Planner<'_>, drivers: &[Driver<'_>]) -> bool
     ensures { IsTrue result ↔ AreAllPlans planner.now.run planner.now.plans
         × HaveStopped drivers.now }
 {

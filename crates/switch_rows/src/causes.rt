@@ -6,7 +6,10 @@ use crate::fixture::{
 use std::alloc::{AllocError, Global};
 use std::sync::Wait;
 use std::test::Fail;
-use switch_runner::{MemoryStore, ProgramFault, Status, SureSink, SureStore, Threads, switch_top};
+use std::thread;
+use switch_runner::{
+    MemoryStore, OpenGate, ProgramFault, Status, SureSink, SureStore, Threads, switch_top,
+};
 
 // A store of `COUNT` as `p` and three packets as `c`.
 fn counting(alloc: Global, fails: &[u64]) -> Result<MemoryStore, AllocError> {
@@ -25,7 +28,7 @@ fn words(rt: HostRuntime) -> Result<(), Fail> {
         ),
         (
             2,
-            "mp5 two p c|mp5 One p c|mp5 ONE p c|mp5 on p c|mp5 ones p c|mp5 PLAN p c|mp5  p c|mp5 -one p c|mp5 run p c|one mp5 p c",
+            "mp5 two p c|mp5 One p c|mp5 ONE p c|mp5 on p c|mp5 ones p c|mp5 PLAN p c|mp5  p c|mp5 -one p c|mp5 runs p c|one mp5 p c",
         ),
         (
             2,
@@ -104,9 +107,9 @@ fn calls_for_help(rt: HostRuntime) -> Result<(), Fail> {
     Ok(())
 }
 
-// Neither other modes nor their options are there yet.
+// There are no other modes, and no numbers out of their range.
 #[test]
-fn modes_to_come(rt: HostRuntime) -> Result<(), Fail> {
+fn other_modes(rt: HostRuntime) -> Result<(), Fail> {
     let alloc = rt.alloc();
     for line in [
         "mp5 run p",
@@ -187,6 +190,7 @@ fn one_byte_at_a_time(rt: HostRuntime) -> Result<(), Fail> {
         ("mp5 one p c", COUNTED),
         ("mp5 plan p c", PLANNED),
         ("mp5 serial p c", COUNTED),
+        ("mp5 run p c", COUNTED),
     ] {
         let mut store = store_of(alloc, COUNT.as_bytes(), &capture, 1, &[])?;
         let (out, err) = (sink(alloc, 1, &[])?, sink(alloc, 1, &[])?);
@@ -197,7 +201,11 @@ fn one_byte_at_a_time(rt: HostRuntime) -> Result<(), Fail> {
 }
 
 // How a call ends on a store of a program `gen:p` and an empty capture `c` that never fails.
-fn sure_code<R: Wait>(rt: &R, alloc: Global, line: &str) -> Result<u8, AllocError> {
+fn sure_code<R: thread::Threads + Wait + Sync>(
+    rt: &R,
+    alloc: Global,
+    line: &str,
+) -> Result<u8, AllocError> {
     let program = file(alloc, "gen:p", COUNT.as_bytes())?;
     let files = vec![in alloc; program, file(alloc, "c", &FILE_HEADER)?]?;
     let mut store = SureStore::new(files);
@@ -210,7 +218,7 @@ fn sure_code<R: Wait>(rt: &R, alloc: Global, line: &str) -> Result<u8, AllocErro
         &mut store,
         &mut out,
         &mut err,
-        &mut Threads::new(),
+        &mut Threads::new(&OpenGate),
     );
     Ok(status.code())
 }

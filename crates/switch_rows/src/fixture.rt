@@ -4,9 +4,11 @@ ghost use Rattle.std.specs.Prelude.{◌<◌};
 use mp5_words::Name;
 use std::alloc::{AllocError, Global};
 use std::process::Abort;
-use std::str;
 use std::sync::Wait;
-use switch_runner::{MemorySink, MemoryStore, NamedBytes, Status, Store, Threads, switch_top};
+use std::{str, thread};
+use switch_runner::{
+    MemorySink, MemoryStore, NamedBytes, OpenGate, Status, Store, Threads, switch_top,
+};
 
 /// Counts the packets.
 pub(crate) const COUNT: &str =
@@ -111,7 +113,7 @@ pub(crate) struct Ended {
 }
 
 /// Calls the switch with these words.
-pub(crate) fn call<R: Wait, S: Store>(
+pub(crate) fn call<R: thread::Threads + Wait + Sync, S: Store>(
     rt: &R,
     alloc: Global,
     line: &str,
@@ -129,13 +131,13 @@ pub(crate) fn call<R: Wait, S: Store>(
         store,
         &mut out,
         &mut err,
-        &mut Threads::new(),
+        &mut Threads::new(&OpenGate),
     );
     Ok(Ended { status, out, err })
 }
 
 /// Runs a program on a capture, with no faults.
-pub(crate) fn run<R: Wait>(
+pub(crate) fn run<R: thread::Threads + Wait + Sync>(
     rt: &R,
     alloc: Global,
     program: &[u8],

@@ -12,7 +12,7 @@ use Rattle.domino_compile.proofs.AcceptedLemmas.{accepted_or_not, one_fault}
 use Rattle.switch_runner.specs.declared.status.Status.{Status}
 use Rattle.switch_runner.specs.declared.status.Status.TheVariants as status
 use Rattle.command_line.specs.declared.request.Mode.{Mode}
-use Rattle.command_line.specs.declared.request.Mode.TheVariants.{One, Plan, Serial}
+use Rattle.command_line.specs.declared.request.Mode.TheVariants.{One, Plan, Run, Serial}
 use Rattle.command_line.specs.CommandLine.{Request}
 use Rattle.switch_net.specs.Marks.{Runs}
 use Rattle.switch_runner.specs.Networks.{RanBy, RanFor, RanIn, RanOf, RanOn}
@@ -77,21 +77,29 @@ gained_source status.NoMemory r old new out h = refl
 gained_source s r old new out h = absurd h
 
 -- no network is run without a program or a capture
+none_by_source : (s : Status) (P : Runs → Runs → Type 0) (name : List ℕ) (old new : StoreView) (runs : Runs) → NoSource name old new s → RanBy P s runs runs
+none_by_source (status.Program f) P name old new runs h = refl
+none_by_source status.ReadFault P name old new runs h = refl
+none_by_source status.NoMemory P name old new runs h = inl refl
+none_by_source s P name old new runs h = absurd h
+
 none_source : (mode : Mode) (s : Status) (P : Runs → Runs → Type 0) (name : List ℕ) (old new : StoreView) (runs : Runs) → NoSource name old new s → RanIn mode P s runs runs
 none_source One s P name old new runs h = refl
 none_source Plan s P name old new runs h = refl
-none_source Serial (status.Program f) P name old new runs h = refl
-none_source Serial status.ReadFault P name old new runs h = refl
-none_source Serial status.NoMemory P name old new runs h = inl refl
-none_source Serial s P name old new runs h = absurd h
+none_source Serial s P name old new runs h = none_by_source s P name old new runs h
+none_source Run s P name old new runs h = none_by_source s P name old new runs h
+
+none_by_headers : (s : Status) (P : Runs → Runs → Type 0) (name : List ℕ) (old new : StoreView) (runs : Runs) → NoHeaders name old new s → RanBy P s runs runs
+none_by_headers (status.Capture f) P name old new runs h = refl
+none_by_headers status.ReadFault P name old new runs h = refl
+none_by_headers status.NoMemory P name old new runs h = inl refl
+none_by_headers s P name old new runs h = absurd h
 
 none_headers : (mode : Mode) (s : Status) (P : Runs → Runs → Type 0) (name : List ℕ) (old new : StoreView) (runs : Runs) → NoHeaders name old new s → RanIn mode P s runs runs
 none_headers One s P name old new runs h = refl
 none_headers Plan s P name old new runs h = refl
-none_headers Serial (status.Capture f) P name old new runs h = refl
-none_headers Serial status.ReadFault P name old new runs h = refl
-none_headers Serial status.NoMemory P name old new runs h = inl refl
-none_headers Serial s P name old new runs h = absurd h
+none_headers Serial s P name old new runs h = none_by_headers s P name old new runs h
+none_headers Run s P name old new runs h = none_by_headers s P name old new runs h
 
 pub serves_no_source : (s : Status) (r : Request) (old new : StoreView) (out : SinkView) (runs : Runs) → ChangesOnly r.program old new → NoSource r.program old new s → Serves r old new out out runs runs s
 serves_no_source s r old new out runs only h = record {
@@ -184,12 +192,12 @@ not_program_ran s text before after h a = a
 
 -- what was run of the read files was run of what is told
 ran_told : (r : Request) (p : Program) (records : List Record) (store : StoreView) (old new : Runs) → IfSome (store.told r.program) (λ text. IsAccepted text p)
-    → IfSome (store.told r.capture) (λ bytes. IsCapture bytes records) → RanOn r.numbers p (headers p.packet.fields records) old new → RanFor r store old new
+    → IfSome (store.told r.capture) (λ bytes. IsCapture bytes records) → RanOn r.mode r.numbers p (headers p.packet.fields records) old new → RanFor r store old new
 ran_told r p records store old new accepted captured ran = record {
   rose = ran.ran.rose;
   told =
-      if_told (store.told r.program) (λ text. IsAccepted text p) (λ text. IfSome (store.told r.capture) (λ bytes. RanOf r.numbers text bytes old new))
-      (λ text a. if_told (store.told r.capture) (λ bytes. IsCapture bytes records) (λ bytes. RanOf r.numbers text bytes old new)
+      if_told (store.told r.program) (λ text. IsAccepted text p) (λ text. IfSome (store.told r.capture) (λ bytes. RanOf r.mode r.numbers text bytes old new))
+      (λ text a. if_told (store.told r.capture) (λ bytes. IsCapture bytes records) (λ bytes. RanOf r.mode r.numbers text bytes old new)
       (λ bytes c. record { program = p; records = records; accepted = a; captured = c; ran = ran }) captured) accepted;
 }
 
@@ -210,10 +218,11 @@ ran_in : (mode : Mode) (P Q : Runs → Runs → Type 0) (s : Status) (old new : 
 ran_in One P Q s old new f h = h
 ran_in Plan P Q s old new f h = h
 ran_in Serial P Q s old new f h = ran_by P Q s old new f h
+ran_in Run P Q s old new f h = ran_by P Q s old new f h
 
 pub serves_run : (s : Status) (r : Request) (p : Program) (records : List Record) (old mid new : StoreView) (before after : SinkView) (start end : Runs) → ChangesOnly r.program old mid → ChangesOnly r.capture mid new
     → IfSome (old.told r.program) (λ text. IsAccepted text p) → IfSome (mid.told r.capture) (λ bytes. IsCapture bytes records)
-    → RunEnds r.mode p (headers p.packet.fields records) before after s → RanIn r.mode (RanOn r.numbers p (headers p.packet.fields records)) s start end → Serves r old new before after start end s
+    → RunEnds r.mode p (headers p.packet.fields records) before after s → RanIn r.mode (RanOn r.mode r.numbers p (headers p.packet.fields records)) s start end → Serves r old new before after start end s
 serves_run s r p records old mid new before after start end first second accepted captured (text, is, h) ran =
     let told : IfSome (old.told r.capture) (λ bytes. IsCapture bytes records) = told_later (old.told r.capture) (mid.told r.capture) (λ bytes. IsCapture bytes records) (first.told r.capture) captured in
     record {
@@ -225,7 +234,7 @@ serves_run s r p records old mid new before after start end first second accepte
         answered = λ about. absurd (not_program_ran s text before after h about);
         told = λ text e isnt. absurd (not_stopped (old.told r.program) text (program_told (old.told r.program) p accepted) e isnt);
       };
-      ran = ran_in r.mode (RanOn r.numbers p (headers p.packet.fields records)) (RanFor r old) s start end (ran_told r p records old start end accepted told) ran;
+      ran = ran_in r.mode (RanOn r.mode r.numbers p (headers p.packet.fields records)) (RanFor r old) s start end (ran_told r p records old start end accepted told) ran;
     }
 
 -- ---- what is told decides the answer, where no read failed

@@ -7,7 +7,7 @@ use Rattle.switch_runner.specs.declared.status.Status.{Status}
 use Rattle.switch_runner.specs.declared.status.Status.TheVariants as status
 use Rattle.switch_runner.specs.Outside.{StoreView, SinkView, ChangesOnly}
 use Rattle.command_line.specs.declared.request.Mode.{Mode}
-use Rattle.command_line.specs.declared.request.Mode.TheVariants.{One, Plan, Serial}
+use Rattle.command_line.specs.declared.request.Mode.TheVariants.{One, Plan, Run, Serial}
 use Rattle.command_line.specs.declared.request.WordsFault.{WordsFault}
 use Rattle.command_line.specs.CommandLine.{Request, NotTaken}
 use Rattle.switch_net.specs.Marks.{Runs}
@@ -39,6 +39,7 @@ none_ran : (mode : Mode) (P : Runs → Runs → Type 0) (runs : Runs) → RanIn 
 none_ran One P runs = refl
 none_ran Plan P runs = refl
 none_ran Serial P runs = inl refl
+none_ran Run P runs = inl refl
 
 -- nothing has changed, and there was no memory for the words at most
 pub laws_of_words : {Z : Type 0} (words : List (String Z)) (store : StoreView) (out : SinkView) (runs : Runs) (f : WordsFault) → NotTaken (texts words) f → Laws words store store out out runs runs (answer_of_words f)

@@ -17,7 +17,7 @@ use Rattle.domino_compile.specs.Accepted.{IsAccepted, IsUnaccepted}
 use Rattle.switch_runner.specs.declared.status.Status.{Status}
 use Rattle.switch_runner.specs.declared.status.Status.TheVariants as status
 use Rattle.command_line.specs.declared.request.Mode.{Mode}
-use Rattle.command_line.specs.declared.request.Mode.TheVariants.{One, Plan, Serial}
+use Rattle.command_line.specs.declared.request.Mode.TheVariants.{One, Plan, Run, Serial}
 use Rattle.command_line.specs.declared.request.WordsFault.{WordsFault}
 use Rattle.command_line.specs.declared.request.WordsFault.TheVariants as words
 use Rattle.command_line.specs.CommandLine.{Request}
@@ -88,6 +88,7 @@ abbrev pub IsTextOf : Mode → Program → List (List ℤ) → List ℕ → Type
 IsTextOf One p headers text = text ≡ report p headers
 IsTextOf Plan p headers text = (code : Staged) × IsCompiled p code × (text ≡ plan_text p code headers)
 IsTextOf Serial p headers text = text ≡ report p headers
+IsTextOf Run p headers text = text ≡ report p headers
 
 -- this is what a mode prints of the program that a text is accepted as, and of the headers of the capture that bytes are
 pub record Prints (mode : Mode) (text bytes printed : List ℕ) : Type 0 where

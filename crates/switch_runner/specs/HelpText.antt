@@ -16,6 +16,7 @@ help_lines =
     ∷ codes "             one     one packet after another, in order of arrival\n"
     ∷ codes "             plan    the compiled program: groups, and the places of each packet\n"
     ∷ codes "             serial  a switch of several pipelines, step by step, on one thread\n"
+    ∷ codes "             run     the same switch, with a thread for each pipeline\n"
     ∷ codes "  PROGRAM  the file of the transaction, a text in Domino of at most 65536 bytes\n"
     ∷ codes "  CAPTURE  the file of the packets, a classic capture (pcap) of Ethernet frames\n"
     ∷ codes "           of at most 134217728 bytes; its name can't begin with gen:\n"

@@ -1,14 +1,13 @@
 -- The laws of the top call: what each answer means, and what a call leaves as it was.
-use Rattle.std.specs.Prelude.{◌≡◌, ◌≢◌, ◌≤◌, ℕ, List, map, Option, Some, IfSome, String, string_bytes}
+use Rattle.std.specs.Prelude.{◌≡◌, ◌≢◌, ◌≤◌, false, ℕ, List, map, Option, Some, IfSome, String, string_bytes}
 use Rattle.capture_io.specs.declared.fault.CaptureFault.{CaptureFault}
 use Rattle.domino_compile.specs.declared.fault.ProgramFault.{ProgramFault}
 use Rattle.switch_runner.specs.declared.status.Status.{Status}
 use Rattle.switch_runner.specs.declared.status.Status.TheVariants as status
 use Rattle.switch_runner.specs.Outside.{StoreView, SinkView, Rose, TookFront, gained, ChangesOnly, IsKept}
-use Rattle.command_line.specs.declared.request.Mode.TheVariants.{Serial}
 use Rattle.command_line.specs.CommandLine.{Request, AsksForHelp, IsRefused, asked}
 use Rattle.switch_net.specs.Marks.{Runs}
-use Rattle.switch_runner.specs.Networks.{RanFor, RanIn}
+use Rattle.switch_runner.specs.Networks.{RanFor, RanIn, runs_network}
 use Rattle.switch_runner.specs.Causes.{Cause, Gained, ComesWhere, IsOrNoMemory, IsReadThrough, IsProgram, IsNoProgram, IsSomeCapture, IsNoCapture, IsAboutProgram, line}
 
 -- the bytes of each word
@@ -63,13 +62,13 @@ pub record StopsAt (r : Request) (old new : StoreView) (answer : Status) : Type 
 abbrev pub StopsAtProgram : {Z : Type 0} → List (String Z) → StoreView → StoreView → Status → Type 0
 StopsAtProgram words old new answer = IfSome (request words) (λ r. StopsAt r old new answer)
 
--- the fabric ran what the answer to taken words says: in mode `serial` a network for each answer that prints
+-- the fabric ran what the answer to taken words says: in modes `serial` and `run` a network for each answer that prints
 abbrev pub Networks : {Z : Type 0} → List (String Z) → StoreView → Runs → Runs → Status → Type 0
 Networks words store old new answer = IfSome (request words) (λ r. RanIn r.mode (RanFor r store) answer old new)
 
 -- the words ask for no network
 abbrev pub AskForNone : {Z : Type 0} → List (String Z) → Type 0
-AskForNone words = IfSome (request words) (λ r. r.mode ≢ Serial)
+AskForNone words = IfSome (request words) (λ r. runs_network r.mode ≡ false)
 
 -- a sink has gained what tells of this answer: a prefix of it where a write failed, and nothing for Done
 pub record Tells (answer : Status) (old new : SinkView) : Type 0 where

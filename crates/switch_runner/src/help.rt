@@ -14,6 +14,7 @@ Arguments:
              one     one packet after another, in order of arrival
              plan    the compiled program: groups, and the places of each packet
              serial  a switch of several pipelines, step by step, on one thread
+             run     the same switch, with a thread for each pipeline
   PROGRAM  the file of the transaction, a text in Domino of at most 65536 bytes
   CAPTURE  the file of the packets, a classic capture (pcap) of Ethernet frames
            of at most 134217728 bytes; its name can't begin with gen:
@@ -57,6 +58,7 @@ mod tests {
             "one",
             "plan",
             "serial",
+            "run",
             "MODE",
             "PROGRAM",
             "CAPTURE",

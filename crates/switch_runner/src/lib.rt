@@ -25,5 +25,5 @@ pub use limits::{MAX_CAPTURE, MAX_TEXT};
 pub use memory::{MemorySink, MemoryStore, NamedBytes, SureSink, SureStore};
 pub use outside::{Failed, Sink, Store, StoreFault};
 pub use status::Status;
-pub use switch_net::{Fabric, Threads};
+pub use switch_net::{Fabric, Gate, OpenGate, Threads};
 pub use top::switch_top;

@@ -1,12 +1,14 @@
 //! The top call: the words, the program, the capture, the run, and what is printed.
-ghost use Rattle.std.specs.Prelude.{◌≡◌, ◌≢◌, List, length, map, string_bytes, IfOk, IfErr, IfSome, None};
+ghost use Rattle.std.specs.Prelude.{◌≡◌, List, length, map, string_bytes, IfOk, IfErr, IfSome, None, false};
 ghost use Rattle.capture_io.specs.ClassicCapture.{Record, IsCapture};
 ghost use Rattle.capture_io.specs.Header.{headers};
 ghost use Rattle.domino_compile.specs.Accepted.{IsAccepted};
+ghost use Rattle.domino_compile.specs.Compiled.{IsCompiled};
 ghost use Rattle.switch_runner.specs.Causes.{ComesWhere};
 ghost use Rattle.command_line.specs.CommandLine.{AsksForHelp, IsRefused, Request, request_with};
 ghost use Rattle.switch_runner.specs.Laws.{AskForNone, Because, CaptureAlways, IsComplete, Laws, Networks, ProgramAlways, ReadsAsked, Reports, StopsAtProgram, Tells, request, texts};
-ghost use Rattle.switch_runner.specs.Networks.{RanBy, RanIn, RanOn};
+ghost use Rattle.compiled_run.specs.SourceRun.{IsSourceAnswer};
+ghost use Rattle.switch_runner.specs.Networks.{RanBy, RanIn, RanOn, runs_network};
 ghost use Rattle.switch_runner.specs.Outside.{ChangesOnly, IsKept};
 ghost use Rattle.report_text.specs.PlanLines.{plan_text};
 ghost use Rattle.report_text.specs.Report.{report};
@@ -23,17 +25,18 @@ use crate::status::Status;
 use crate::transfer::read_whole;
 use capture_io::{Capture, read_capture};
 use command_line::{Mode, Request, asked};
-use compiled_run::run_serial;
+use compiled_run::{run, run_serial};
 use domino_check::Checked;
 use domino_compile::{Compiled, compile};
 use mp5_words::{FieldNames, NoMemory};
 use report_text::{Line, PlanText};
 use std::alloc::Global;
 use std::sync::Wait;
-use switch_net::Fabric;
+use std::thread::Threads;
+use switch_net::{Answer, Fabric};
 
 /// Runs the program on the words of a command line, whose first word is the program's own name.
-pub fn switch_top<R: Wait, S: Store, K: Sink, F: Fabric>(
+pub fn switch_top<R: Threads + Wait + Sync, S: Store, K: Sink, F: Fabric>(
     rt: &R,
     alloc: Global,
     words: &[String],
@@ -63,7 +66,8 @@ pub fn switch_top<R: Wait, S: Store, K: Sink, F: Fabric>(
     ensures names { ReadsAsked words.now (S.seen store.old) (S.seen store.new) }
     ensures stops { StopsAtProgram words.now (S.seen store.old) (S.seen store.new) result }
 
-    // A network is run in mode `serial` alone, for each answer that prints, and it is that of the request.
+    // A network is run in modes `serial` and `run` alone, for each answer that prints, and it is that of the
+    // request.
     ensures fabric { AskForNone words.now → fabric.new ≡ fabric.old }
     ensures networks { Networks words.now (S.seen store.old)
         (F.seen fabric.old) (F.seen fabric.new) result }
@@ -77,7 +81,7 @@ pub fn switch_top<R: Wait, S: Store, K: Sink, F: Fabric>(
 }
 
 /// Runs the program on the words, and tells nothing of the answer.
-fn run_words<R: Wait, S: Store, K: Sink, F: Fabric>(
+fn run_words<R: Threads + Wait + Sync, S: Store, K: Sink, F: Fabric>(
     rt: &R,
     alloc: Global,
     words: &[String],
@@ -97,7 +101,7 @@ fn run_words<R: Wait, S: Store, K: Sink, F: Fabric>(
 }
 
 /// Reads the program and the capture, and then does what the mode says.
-fn serve<R: Wait, S: Store, K: Sink, F: Fabric>(
+fn serve<R: Threads + Wait + Sync, S: Store, K: Sink, F: Fabric>(
     rt: &R,
     alloc: Global,
     request: &Request<'_>,
@@ -108,7 +112,7 @@ fn serve<R: Wait, S: Store, K: Sink, F: Fabric>(
     ensures serves { Serves (words_of request.now)
         (S.seen store.old) (S.seen store.new) (K.seen out.old) (K.seen out.new)
         (F.seen fabric.old) (F.seen fabric.new) result }
-    ensures fabric { request.now.mode ≢ Mode.Serial → fabric.new ≡ fabric.old }
+    ensures fabric { runs_network request.now.mode ≡ false → fabric.new ≡ fabric.old }
 {
     let compiled = match read_source(alloc, store, request.program) {
         Ok(compiled) => compiled,
@@ -149,7 +153,7 @@ fn read_headers<S: Store>(
 }
 
 /// Prints of the program and the headers what the mode prints.
-fn run_and_print<R: Wait, K: Sink, F: Fabric>(
+fn run_and_print<R: Threads + Wait + Sync, K: Sink, F: Fabric>(
     rt: &R,
     alloc: Global,
     request: &Request<'_>,
@@ -161,19 +165,21 @@ fn run_and_print<R: Wait, K: Sink, F: Fabric>(
     requires { AreWide (length compiled.now.program.packet.fields) headers }
     ensures ends { RunEnds request.now.mode compiled.now.program headers
         (K.seen out.old) (K.seen out.new) result }
-    ensures ran { RanIn request.now.mode (RanOn (words_of request.now).numbers
-        compiled.now.program headers) result (F.seen fabric.old) (F.seen fabric.new) }
-    ensures fabric { request.now.mode ≢ Mode.Serial → fabric.new ≡ fabric.old }
+    ensures ran { RanIn request.now.mode
+        (RanOn request.now.mode (words_of request.now).numbers compiled.now.program headers)
+        result (F.seen fabric.old) (F.seen fabric.new) }
+    ensures fabric { runs_network request.now.mode ≡ false → fabric.new ≡ fabric.old }
 {
     match request.mode {
         Mode::One => run_in_order(alloc, &compiled.source, headers, out),
         Mode::Plan => print_code(alloc, compiled, &headers, out),
-        Mode::Serial => run_network(rt, alloc, request, compiled, &headers, out, fabric),
+        Mode::Serial => run_in_turns(rt, alloc, request, compiled, &headers, out, fabric),
+        Mode::Run => run_on_threads(rt, alloc, request, compiled, &headers, out, fabric),
     }
 }
 
-/// Runs a network on the headers, and then writes the report of its answer.
-fn run_network<R: Wait, K: Sink, F: Fabric>(
+/// Runs a network on the headers on one thread, and then writes the report of its answer.
+fn run_in_turns<R: Threads + Wait + Sync, K: Sink, F: Fabric>(
     rt: &R,
     alloc: Global,
     request: &Request<'_>,
@@ -185,8 +191,8 @@ fn run_network<R: Wait, K: Sink, F: Fabric>(
     requires { AreWide (length compiled.now.program.packet.fields) headers.now }
     ensures ends { Ends (report compiled.now.program headers.now)
         (K.seen out.old) (K.seen out.new) result }
-    ensures ran { RanBy (RanOn (words_of request.now).numbers compiled.now.program headers.now)
-        result (F.seen fabric.old) (F.seen fabric.new) }
+    ensures ran { RanBy (RanOn Mode.Serial (words_of request.now).numbers
+        compiled.now.program headers.now) result (F.seen fabric.old) (F.seen fabric.new) }
 {
     let answer = run_serial(
         rt,
@@ -198,16 +204,57 @@ fn run_network<R: Wait, K: Sink, F: Fabric>(
         request.seed,
     );
     match answer {
-        Ok(answer) => print_run(
-            alloc,
-            &compiled.source,
-            answer.arrivals,
-            &answer.packets,
-            &answer.cells,
-            out,
-        ),
+        Ok(answer) => print_answer(alloc, compiled, headers, &answer, out),
         Err(NoMemory) => Status::NoMemory,
     }
+}
+
+/// Runs a network on the headers on threads, and then writes the report of its answer.
+fn run_on_threads<R: Threads + Wait + Sync, K: Sink, F: Fabric>(
+    rt: &R,
+    alloc: Global,
+    request: &Request<'_>,
+    compiled: &Compiled,
+    headers: &Capture,
+    out: &mut K,
+    fabric: &mut F,
+) -> Status
+    requires { AreWide (length compiled.now.program.packet.fields) headers.now }
+    ensures ends { Ends (report compiled.now.program headers.now)
+        (K.seen out.old) (K.seen out.new) result }
+    ensures ran { RanBy (RanOn Mode.Run (words_of request.now).numbers
+        compiled.now.program headers.now) result (F.seen fabric.old) (F.seen fabric.new) }
+{
+    let answer = run(rt, alloc, fabric, compiled, headers, &request.settings);
+    match answer {
+        Ok(answer) => print_answer(alloc, compiled, headers, &answer, out),
+        Err(NoMemory) => Status::NoMemory,
+    }
+}
+
+/// Writes the report of what a network answers.
+fn print_answer<K: Sink>(
+    alloc: Global,
+    compiled: &Compiled,
+    headers: &Capture,
+    answer: &Answer,
+    out: &mut K,
+) -> Status
+    requires wide { AreWide (length compiled.now.program.packet.fields) headers.now }
+    requires answer { IsSourceAnswer compiled.now.program headers.now answer.now }
+    ensures ends { Ends (report compiled.now.program headers.now)
+        (K.seen out.old) (K.seen out.new) result }
+    ensures compiled { IsCompiled compiled.now.program compiled.now.code }
+{
+    let _ = headers;
+    print_run(
+        alloc,
+        &compiled.source,
+        answer.arrivals,
+        &answer.packets,
+        &answer.cells,
+        out,
+    )
 }
 
 /// Runs the transaction on each header in order, and then writes the report.

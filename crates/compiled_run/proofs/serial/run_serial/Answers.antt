@@ -1,3 +1,4 @@
+use Rattle.std.proofs.Common.{Some, ap}
 use Rattle.compiled_run.proofs.AnswerLemmas.{compiled_answer, compiled_mark}
 use Rattle.compiled_run.proofs.serial.run_serial.Goals as goal
 
@@ -8,4 +9,4 @@ returns-clause-answer g c =
 pub returns-clause-run : goal.returns-clause-run
 returns-clause-run g c =
     compiled_mark _ c.args.compiled.now c.args.capture.now c.args.settings.now _ c.run_serial-ended.result.answer c.compiled.view_is c.compiled.invariant c.requires.wide c.in_ok-network.ensures c.run_serial-ended.ensures.ended.answer
-    c.args.seed c.from.result _ _ c.from.ensures c.run_serial-ended.ensures.run
+    (Some c.args.seed) (Some c.from.result) _ _ (ap Some c.from.ensures) c.run_serial-ended.ensures.run

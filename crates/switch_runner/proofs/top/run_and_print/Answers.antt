@@ -30,5 +30,13 @@ returns-in-Serial-clause-ends g c =
     let now = c.args.compiled.now in (
       report now.program c.args.headers,
       subst (λ (m : Mode). IsTextOf m now.program c.args.headers (report now.program c.args.headers)) (sym c.in-Serial.is) refl,
-      c.run_network.ensures.ends,
+      c.run_in_turns.ensures.ends,
+    )
+
+pub returns-in-Run-clause-ends : goal.returns-in-Run-clause-ends
+returns-in-Run-clause-ends g c =
+    let now = c.args.compiled.now in (
+      report now.program c.args.headers,
+      subst (λ (m : Mode). IsTextOf m now.program c.args.headers (report now.program c.args.headers)) (sym c.in-Run.is) refl,
+      c.run_on_threads.ensures.ends,
     )

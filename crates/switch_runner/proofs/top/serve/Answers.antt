@@ -1,4 +1,4 @@
-use Rattle.std.proofs.Common.{◌≡◌, ◌∙◌, List, ℤ, length, sym, ap, subst}
+use Rattle.std.proofs.Common.{rules, ◌≡◌, ◌∙◌, List, ℤ, length, sym, ap, subst}
 use Rattle.capture_io.specs.Header.{headers}
 use Rattle.domino_compile.specs.Compiled.{Translation}
 use Rattle.switch_runner.specs.Networks.{RanIn, RanOn}
@@ -19,8 +19,13 @@ returns-in-Err-read_headers-clause-serves g c =
 pub run_and_print-requires : goal.run_and_print-requires
 run_and_print-requires g c =
     let read = c.in-Ok-read_headers.ensures.read in
-    let fields = c.field_names.ensures ∙ ap (λ (t : Translation). t.program.packet.fields) c.compiled.view_is in
-    subst (λ (hs : List (List ℤ)). AreWide (length c.in-Ok.compiled.program.packet.fields) hs) (sym (read.1 ∙ ap (λ names. headers names read.0) fields)) (wide_headers c.in-Ok.compiled.program.packet.fields read.0)
+    let fields = c.field_names.ensures ∙ ap (λ (t : Translation). t.program.packet.fields) c.compiled.view_is in (
+      search rules,
+      (
+        search rules,
+        subst (λ (hs : List (List ℤ)). AreWide (length c.in-Ok.compiled.program.packet.fields) hs) (sym (read.1 ∙ ap (λ names. headers names read.0) fields)) (wide_headers c.in-Ok.compiled.program.packet.fields read.0),
+      ),
+    )
 
 pub returns-clause-serves : goal.returns-clause-serves
 returns-clause-serves g c =
@@ -31,5 +36,5 @@ returns-clause-serves g c =
     c.in-Ok.ensures.only c.in-Ok-read_headers.ensures.only c.in-Ok.ensures.read read.2
     (subst (λ (hs : List (List ℤ)). RunEnds c.args.request.now.mode c.in-Ok.compiled.program hs (g.K.Sink.seen c.args.out.now) (g.K.Sink.seen c.run_and_print.new.out) c.run_and_print.result) same
     c.run_and_print.ensures.ends)
-    (subst (λ (hs : List (List ℤ)). RanIn c.args.request.now.mode (RanOn (words_of c.args.request.now).numbers c.in-Ok.compiled.program hs) c.run_and_print.result (g.F.Fabric.seen c.args.fabric.now) (g.F.Fabric.seen c.run_and_print.new.fabric)) same
+    (subst (λ (hs : List (List ℤ)). RanIn c.args.request.now.mode (RanOn c.args.request.now.mode (words_of c.args.request.now).numbers c.in-Ok.compiled.program hs) c.run_and_print.result (g.F.Fabric.seen c.args.fabric.now) (g.F.Fabric.seen c.run_and_print.new.fabric)) same
     c.run_and_print.ensures.ran)

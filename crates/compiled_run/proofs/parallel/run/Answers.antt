@@ -1,0 +1,12 @@
+use Rattle.std.proofs.Common.{None, refl}
+use Rattle.compiled_run.proofs.AnswerLemmas.{compiled_answer, compiled_mark}
+use Rattle.compiled_run.proofs.parallel.run.Goals as goal
+
+pub returns-clause-answer : goal.returns-clause-answer
+returns-clause-answer g c =
+    compiled_answer _ c.args.compiled.now c.args.capture.now c.args.settings.now _ c.run-ended.result.answer c.compiled.view_is c.compiled.invariant c.requires.wide c.in_ok-network.ensures c.run-ended.ensures.ended.answer
+
+pub returns-clause-run : goal.returns-clause-run
+returns-clause-run g c =
+    compiled_mark _ c.args.compiled.now c.args.capture.now c.args.settings.now _ c.run-ended.result.answer c.compiled.view_is c.compiled.invariant c.requires.wide c.in_ok-network.ensures c.run-ended.ensures.ended.answer
+    None None _ _ refl c.run-ended.ensures.run
