@@ -97,8 +97,8 @@ fn cell_named(index: i32, length: u32) -> u32
     }
 }
 
-// The place of the cell of an array that its index names.
-fn place_of(checked: &Checked, array: u32, fields: &[i32]) -> u32
+/// The place of the cell of an array that its index names, on the fields alone; 0 where it is touched nowhere.
+pub fn place_of(checked: &Checked, array: u32, fields: &[i32]) -> u32
     ensures { result ≡ place (indexing checked.now) array fields.now }
 {
     let arrays = checked.arrays();

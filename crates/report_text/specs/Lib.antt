@@ -7,3 +7,5 @@ pub mod RefusalLine
 pub mod Room
 pub mod PlanLines
 pub mod PlanReading
+pub mod AnswerLines
+pub mod Told

@@ -10,8 +10,8 @@ use crate::line::Line;
 use code_forms::StagedCode;
 use domino_check::ArrayInfo;
 
-// A space and a number.
-fn put_spaced(into: &mut Line, number: u32)
+/// A space and a number.
+pub(crate) fn put_spaced(into: &mut Line, number: u32)
     requires { length into.old.text + 11 ≤ into.old.room }
     ensures text { into.new.text ≡ into.old.text ++ spaced_number number }
     ensures length { length into.new.text ≤ length into.old.text + 11 }
@@ -35,8 +35,8 @@ pub(crate) fn put_code(into: &mut Line, code: &StagedCode)
     into.put(b"\n");
 }
 
-// Whether an array is in a set.
-fn in_set(set: u16, array: usize) -> bool
+/// Whether an array is in a set.
+pub(crate) fn in_set(set: u16, array: usize) -> bool
     requires { array < 16 }
     ensures { result ≡ in_set set array }
 {

@@ -4,13 +4,18 @@
 //! A `Line` has room for each line of its program before one is written.
 #![tactic(auto)]
 
+mod accesses;
 mod canonical;
+mod cells;
 mod code_text;
 mod cursor;
 mod labels;
 mod line;
 mod plan_text;
+mod report;
+mod run_text;
 
 pub use labels::labels_of;
 pub use line::Line;
 pub use plan_text::PlanText;
+pub use report::{Report, Style};

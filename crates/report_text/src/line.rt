@@ -1,5 +1,6 @@
 //! The bytes of a line, for which there is room before it is written.
 ghost use Rattle.std.specs.Prelude.{◌≡◌, ◌≤◌, ◌+◌, ◌++◌, [], length, decimal, vec_len, vec_capacity, IfOk};
+ghost use Rattle.std.specs.Fmt.{signed_decimal};
 ghost use Rattle.report_text.specs.Room.{fields_room, arrays_room, room_of};
 
 use domino_check::{ArrayInfo, Checked};
@@ -78,6 +79,28 @@ impl Line {
     {
         let mut digits = Buffer::new();
         self.put(digits.format(number).as_bytes());
+    }
+
+    /// Puts a number of up to 64 bits at the end. Takes no memory.
+    pub(crate) fn put_long(&mut self, number: u64)
+        requires { length self.old.text + 20 ≤ self.old.room }
+        ensures text { self.new.text ≡ self.old.text ++ decimal number }
+        ensures length { length self.new.text ≤ length self.old.text + 20 }
+        ensures room { self.old.room ≤ self.new.room }
+    {
+        let mut digits = Buffer::new();
+        self.put(digits.format(number).as_bytes());
+    }
+
+    /// Puts a word at the end, with `-` where it is negative. Takes no memory.
+    pub(crate) fn put_signed(&mut self, word: i32)
+        requires { length self.old.text + 11 ≤ self.old.room }
+        ensures text { self.new.text ≡ self.old.text ++ signed_decimal word }
+        ensures length { length self.new.text ≤ length self.old.text + 11 }
+        ensures room { self.old.room ≤ self.new.room }
+    {
+        let mut digits = Buffer::new();
+        self.put(digits.format(word).as_bytes());
     }
 }
 
