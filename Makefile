@@ -1,4 +1,5 @@
-# make run      compiles the program without proving it, and runs PROGRAM on CAPTURE in a MODE with OPTIONS: about a minute
+# make run      compiles the program without proving it, and runs PROGRAM on CAPTURE, a file or gen:COUNT:SEED, in a MODE
+#               with OPTIONS: about a minute
 # make build    proves and builds the program, crates/mp5/out/mp5
 # make install  puts the program and its manual page below PREFIX, and builds the program first where it isn't there
 # make test     is the gate: every proof, edit, test and program
@@ -11,10 +12,13 @@ PREFIX = /usr/local
 
 .PHONY: run build install test
 
+# A capture that is made is no file.
+MADE = $(filter gen:%,$(CAPTURE))
+
 run:
 	@cd crates/mp5 && rt try \
-	  --data transaction.domino="$(abspath $(PROGRAM))" --data packets.pcap="$(abspath $(CAPTURE))" \
-	  -- $(MODE) transaction.domino packets.pcap $(OPTIONS)
+	  --data transaction.domino="$(abspath $(PROGRAM))" $(if $(MADE),,--data packets.pcap="$(abspath $(CAPTURE))") \
+	  -- $(MODE) transaction.domino $(if $(MADE),"$(CAPTURE)",packets.pcap) $(OPTIONS)
 
 build: crates/mp5/out/mp5
 

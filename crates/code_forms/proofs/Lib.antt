@@ -13,6 +13,7 @@ pub mod RunningLemmas
 pub mod PartLemmas
 pub mod ServeLemmas
 pub mod PlaceLemmas
+pub mod NeededLemmas
 pub mod TableLemmas
 pub mod RowLemmas
 pub mod UnitLemmas

@@ -11,13 +11,14 @@ use Rattle.code_forms.specs.declared.parts.StagedGroup.{StagedGroup}
 use Rattle.code_forms.specs.declared.spot.Spot.{Spot}
 use Rattle.code_forms.specs.FlatMeaning.{instr_value, flat_length}
 use Rattle.code_forms.specs.Staged.{Staged, slot_count, slot_of_index, operand_word, operand_slots, point, group_start, group_at, no_group, first_array, IsWritten, at_end, IsGroup, IsStaged}
-use Rattle.code_forms.specs.StagedMeaning.{no_loads, is_touching, header_step, header_words, unit_number, place_on, place_code, staged_values, Finishes}
+use Rattle.code_forms.specs.StagedMeaning.{no_loads, is_touching, header_step, unit_number, place, place_on, place_code, staged_values, Finishes}
 use Rattle.code_forms.specs.Spots.{spot_at, spot_value, spot_step, AreSpots}
 use Rattle.mp5_words.specs.Domain.{words}
 use Rattle.mp5_words.specs.Words.{cell}
 use Rattle.mp5_words.specs.Cells.{word_at, natural}
 use Rattle.code_forms.proofs.StagedLemmas.{first_member}
-use Rattle.code_forms.proofs.RunningLemmas.{Agrees, agrees_front, agrees_back, operand_agrees, lengths_agree}
+use Rattle.code_forms.specs.Needed.{Agrees, GivesPlaces}
+use Rattle.code_forms.proofs.RunningLemmas.{agrees_front, agrees_back, operand_agrees, lengths_agree}
 
 -- ---- the end
 
@@ -50,20 +51,22 @@ header_value c spots are room (instr.Index array a) = ap (λ n. pos (cell (opera
 header_value c spots are room (instr.Load array) = refl
 header_value c spots are room (instr.Store array a) = refl
 
-steps_same : (c : Staged) (spots : List Spot) → AreSpots c spots → (steps : List HeaderStep) (room : List ℤ) → fold (spot_step spots) room steps ≡ fold (header_step c) room steps
+pub steps_same : (c : Staged) (spots : List Spot) → AreSpots c spots → (steps : List HeaderStep) (room : List ℤ) → fold (spot_step spots) room steps ≡ fold (header_step c) room steps
 steps_same c spots are [] room = refl
 steps_same c spots are (s ∷ steps) room =
     steps_same c spots are steps (spot_step spots room s) ∙ ap (λ z. fold (header_step c) (slice_set room s.slot z) steps) (header_value c spots are room s.instr)
 
--- what the code has in its slots after the run
-pub header_run : (c : Staged) (spots table : List Spot) (steps : List HeaderStep) (header : List ℤ) (room : ℕ) (after : List ℤ) → AreSpots c spots
-    → length header ≡ c.fields → room ≡ slot_count c → table ≡ spots → steps ≡ c.header
-    → after ≡ fold (spot_step table) (header ++ replicate (room - length header) (pos 0)) steps → after ≡ header_words c header
-header_run c spots table steps header room after are long slots table_is steps_is is =
+-- the place after the steps that are needed
+pub needed_place : (c : Staged) (spots table : List Spot) (needed : List HeaderStep) (header : List ℤ) (room : ℕ) (after : List ℤ) → AreSpots c spots
+    → length header ≡ c.fields → room ≡ slot_count c → table ≡ spots → GivesPlaces c needed
+    → after ≡ fold (spot_step table) (header ++ replicate (room - length header) (pos 0)) needed
+    → (g : ℕ) → place_on c after (group_at c g) ≡ place c header g
+needed_place c spots table needed header room after are long slots table_is gives is g =
+    let start : List ℤ = header ++ replicate (length c.instrs) (pos 0) in
     let rest : room - length header ≡ length c.instrs = omega (arith, long, slots) in
-    is
-    ∙ (λ j. fold (spot_step (table_is j)) (header ++ replicate (rest j) (pos 0)) (steps_is j))
-    ∙ steps_same c spots are c.header (header ++ replicate (length c.instrs) (pos 0))
+    let same : after ≡ fold (header_step c) start needed =
+    is ∙ (λ j. fold (spot_step (table_is j)) (header ++ replicate (rest j) (pos 0)) needed) ∙ steps_same c spots are needed start in
+    ap (λ r. place_on c r (group_at c g)) same ∙ gives start g
 
 -- a place at a sharded group
 pub sharded_place : (c : Staged) (room : List ℤ) (g : StagedGroup) (n : ℕ) → list_any (is_touching c room) g.arrays ≡ true → g.sharded ≡ true

@@ -1,18 +1,20 @@
 -- What running keeps, as plain data.
-use Rattle.std.proofs.Common.{◌≡◌, ◌≢◌, ℕ, zero, suc, ◌+◌, ◌-◌, ◌<◌, ◌≤◌, ℤ, pos, List, [], ◌∷◌, ◌++◌, length, map, flat_map, get_or, slice_set, refl, sym, ap, subst, if◌then◌else◌, ◌∙◌, ◌⊎◌, inl, inr, arith, add-one}
-use Rattle.std.proofs.lemmas.List.{length-set, get_or-set_same, get_or-set_other, get_or_past, length-map}
+use Rattle.std.proofs.Common.{◌≡◌, ◌≢◌, ℕ, zero, suc, ◌+◌, ◌-◌, ◌<◌, ◌≤◌, ℤ, pos, List, ◌∷◌, ◌++◌, length, map, flat_map, get_or, slice_set, refl, sym, ap, subst, if◌then◌else◌, ◌∙◌, ◌⊎◌, inl, inr, arith, add-one}
+use Rattle.std.proofs.lemmas.List.{length-set, get_or-set_same, get_or-set_other, get_or_past, get_or-map, length-map}
 use Rattle.std.proofs.lemmas.Bool.Decides.{eqb_tells}
 use Rattle.code_forms.specs.declared.flat.Operand.{Operand}
 use Rattle.code_forms.specs.declared.flat.Operand.TheVariants as operand
 use Rattle.code_forms.specs.declared.flat.Instr.{Instr}
 use Rattle.code_forms.specs.declared.flat.Instr.TheVariants as instr
 use Rattle.code_forms.specs.declared.flat.FlatArray.{FlatArray}
+use Rattle.code_forms.specs.declared.parts.HeaderStep.{HeaderStep}
 use Rattle.code_forms.specs.declared.spot.Spot.{Spot}
 use Rattle.code_forms.specs.FlatMeaning.{instr_value, flat_length}
-use Rattle.code_forms.specs.Staged.{Staged, Member, slot_of_index, operand_word, operand_slots, guards_of, uses, number_at, runs, IsWritten, by_instr, point, InPart, AreParts, IsStaged}
+use Rattle.code_forms.specs.Staged.{Staged, slot_of_index, operand_word, operand_slots, guards_of, uses, number_at, runs, IsWritten, by_instr, point, InPart, AreParts, IsStaged}
 use Rattle.code_forms.specs.StagedMeaning.{code_values}
-use Rattle.code_forms.specs.Spots.{no_spot, spot_at, spot_of, spot_value, AreLengths, AreSpots, IsKept}
+use Rattle.code_forms.specs.Spots.{no_spot, spot_at, spot_of, spot_value, AreLengths, AreSpots}
 use Rattle.code_forms.specs.Running.{Reads, Steps, RunsTo}
+use Rattle.code_forms.specs.Needed.{Agrees, numbered_step, IsKept}
 use Rattle.mp5_words.specs.Domain.{Loads, words}
 use Rattle.mp5_words.specs.Words.{op1, op2, hash, cell}
 use Rattle.mp5_words.specs.Cells.{word_at, natural, picked}
@@ -46,9 +48,6 @@ lengths_fit c spots staged are a = elim (below_or_past a (length c.arrays)) [
 ]
 
 -- ---- values
-
-abbrev pub Agrees : List ℤ → List ℤ → List ℕ → Type 0
-Agrees env vals slots = (v : ℕ) → Member v slots → word_at env v ≡ word_at vals v
 
 pub agrees_front : (env vals : List ℤ) (xs ys : List ℕ) → Agrees env vals (xs ++ ys) → Agrees env vals xs
 agrees_front env vals xs ys all v m = all v (member_front v xs ys m)
@@ -107,10 +106,10 @@ module _ (c : Staged) (spots : List Spot) (are : AreSpots c spots) (loads : Load
 -- ---- one step
 
 -- one instruction leads from one place of the order to the next
-pub steps : (c : Staged) (spots : List Spot) (p : ℕ) (cells env : List ℤ) (x : ℤ) → IsStaged c → AreSpots c spots → p < length c.order
+run_step : (c : Staged) (spots : List Spot) (p : ℕ) (cells env : List ℤ) (x : ℤ) → IsStaged c → AreSpots c spots → p < length c.order
     → x ≡ spot_value spots cells env (runs c p)
     → Steps c p cells env (slice_set env (c.fields + number_at c p) x)
-steps c spots p cells env x staged are within is from loads header long less reads holds = record {
+run_step c spots p cells env x staged are within is from loads header long less reads holds = record {
   long = length-set env slot x ∙ holds.long;
   held = λ v w u. elim (written_cases c p v (subst (λ n. IsWritten c n v) (add-one p) w)) [
     | inl before ↦ elim (eqb_tells v slot) [
@@ -138,26 +137,20 @@ steps c spots p cells env x staged are within is from loads header long less rea
       ∙ sym (valued c loads header (number_at c p) staged long known)
       ∙ ap (word_at (code_values c loads header)) (sym same)
 
-any_default : {A : Type 0} (xs : List A) (k : ℕ) (d e : A) → k < length xs → get_or xs k d ≡ get_or xs k e
-any_default [] k d e w = absurd (omega arith)
-any_default (x ∷ xs) zero d e w = refl
-any_default (x ∷ xs) (suc k) d e w = any_default xs k d e (omega (arith, w))
-
 -- the step that the code makes
-pub step_done : (code c : Staged) (spots table : List Spot) (order : List ℕ) (instrs : List Instr) (p : ℕ) (d : Instr) (x : ℤ) (cells env new : List ℤ) → code ≡ c
-    → IsKept code spots → p < length c.order → order ≡ code.order → instrs ≡ code.instrs → table ≡ spots
-    → x ≡ spot_value table cells env (get_or instrs (get_or order p 0) d)
-    → new ≡ slice_set env (code.fields + get_or order p 0) x → Steps c p cells env new
-step_done code c spots table order instrs p d x cells env new view kept within order_is instrs_is table_is is new_is =
+pub step_done : (code c : Staged) (spots table : List Spot) (steps kept_steps needed : List HeaderStep) (p : ℕ) (d : HeaderStep) (x : ℤ) (cells env new : List ℤ) → code ≡ c
+    → IsKept code spots kept_steps needed → p < length c.order → steps ≡ kept_steps → table ≡ spots
+    → x ≡ spot_value table cells env (get_or steps p d).instr
+    → new ≡ slice_set env (get_or steps p d).slot x → Steps c p cells env new
+step_done code c spots table steps kept_steps needed p d x cells env new view kept within steps_is table_is is new_is =
     subst (λ (s : Staged). p < length s.order → Steps s p cells env new) view done within where
       done : p < length code.order → Steps code p cells env new
       done inside =
-          let known : number_at code p < length code.instrs = kept.staged.order.known p inside in
-          let word : x ≡ spot_value spots cells env (runs code p) =
-          is ∙ (λ j. spot_value (table_is j) cells env (get_or (instrs_is j) (get_or (order_is j) p 0) d))
-          ∙ ap (spot_value spots cells env) (any_default code.instrs (number_at code p) d (instr.Load 0) known) in
-          let written : new ≡ slice_set env (code.fields + number_at code p) x = new_is ∙ (λ j. slice_set env (code.fields + get_or (order_is j) p 0) x) in
-          subst (λ n. Steps code p cells env n) (sym written) (steps code spots p cells env x kept.staged kept.spots inside word)
+          let step : get_or steps p d ≡ numbered_step code.fields code.instrs (number_at code p) =
+          ap (λ l. get_or l p d) (steps_is ∙ kept.steps) ∙ get_or-map (numbered_step code.fields code.instrs) code.order p 0 d inside in
+          let word : x ≡ spot_value spots cells env (runs code p) = is ∙ (λ j. spot_value (table_is j) cells env (step j).instr) in
+          let written : new ≡ slice_set env (code.fields + number_at code p) x = new_is ∙ (λ j. slice_set env (step j).slot x) in
+          subst (λ n. Steps code p cells env n) (sym written) (run_step code spots p cells env x kept.staged kept.spots inside word)
 
 -- ---- a part
 

@@ -12,7 +12,8 @@ use Rattle.code_forms.specs.Running.{Holds, RunsPart}
 use Rattle.mp5_words.specs.Words.{truth}
 use Rattle.mp5_words.specs.Cells.{word_at, natural, touching, bits}
 use Rattle.code_forms.proofs.EachLemmas.{Each}
-use Rattle.code_forms.proofs.RunningLemmas.{Agrees, agrees_front, agrees_back, operand_agrees}
+use Rattle.code_forms.specs.Needed.{Agrees}
+use Rattle.code_forms.proofs.RunningLemmas.{agrees_front, agrees_back, operand_agrees}
 use Rattle.code_forms.proofs.PartLemmas.{written_still, inside_order, group_holds, group_fits}
 
 -- ---- lists

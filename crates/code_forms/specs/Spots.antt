@@ -10,8 +10,8 @@ use Rattle.code_forms.specs.declared.parts.HeaderStep.{HeaderStep}
 use Rattle.code_forms.specs.declared.parts.StagedGroup.{StagedGroup}
 use Rattle.code_forms.specs.declared.spot.Spot.{Spot}
 use Rattle.code_forms.specs.FlatMeaning.{instr_value, flat_length}
-use Rattle.code_forms.specs.Staged.{Staged, slot_of_index, no_group, group_from, share, cells_before, stored_operand, operand_word, guards_of, IsStaged}
-use Rattle.code_forms.specs.StagedMeaning.{is_open, PlacesAreIndexes}
+use Rattle.code_forms.specs.Staged.{Staged, slot_of_index, no_group, group_from, share, cells_before, stored_operand, operand_word, guards_of}
+use Rattle.code_forms.specs.StagedMeaning.{is_open}
 use Rattle.mp5_words.specs.Domain.{words}
 use Rattle.mp5_words.specs.Cells.{word_at, natural}
 
@@ -68,12 +68,6 @@ spot_of c a = record {
 pub record AreSpots (c : Staged) (spots : List Spot) : Type 0 where
   pub long : length spots ≡ length c.arrays
   pub each : (a : ℕ) → a < length c.arrays → spot_at spots a ≡ spot_of c a
-
--- what the type keeps: its data is valid, places are index values, and the table has where each array stands
-pub record IsKept (c : Staged) (table : List Spot) : Type 0 where
-  pub staged : IsStaged c
-  pub places : PlacesAreIndexes c
-  pub spots : AreSpots c table
 
 -- an array's cell of a unit after its Store
 abbrev pub spot_store : List Spot → List ℤ → List ℤ → ℕ → List ℤ

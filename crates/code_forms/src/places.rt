@@ -26,7 +26,7 @@ impl StagedCode {
         ensures indexes { PlacesAreIndexes self.now }
     {
         lay_out(header, room);
-        run_header(self.parts.header.as_slice(), self.spots.as_slice(), room);
+        run_header(self.needed.as_slice(), self.spots.as_slice(), room);
         *out = [0; 16];
         for g in 0..self.groups() {
             out[g as usize] = self.group_place(g, room);

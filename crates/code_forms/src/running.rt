@@ -49,10 +49,9 @@ impl StagedCode {
         requires { p < length self.now.order }
         ensures { Steps self.now p cells.now env.old env.new }
     {
-        let number = self.parts.order.as_slice()[p];
-        let instr = self.instrs.as_slice()[number as usize];
-        let word = value_of(instr, self.spots.as_slice(), env, cells);
-        put(env, self.fields as usize + number as usize, word);
+        let step = self.steps.as_slice()[p];
+        let word = value_of(step.instr, self.spots.as_slice(), env, cells);
+        put(env, step.slot as usize, word);
     }
 
     // Runs the instructions of a part.

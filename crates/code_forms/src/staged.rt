@@ -5,8 +5,10 @@ ghost use Rattle.code_forms.specs.StagedMeaning.{PlacesAreIndexes, start_of};
 ghost use Rattle.code_forms.specs.FlatMeaning.{flat_length};
 
 use crate::flat::{FlatArray, FlatCode, Instr, Operand};
-use crate::parts::{StagedGroup, StagedParts};
+use crate::needed::{needed_of, place_slots};
+use crate::parts::{HeaderStep, StagedGroup, StagedParts};
 use crate::spot::Spot;
+use crate::steps::steps_of;
 use crate::table::table_of;
 use mp5_words::NoMemory;
 use sqlite_items::Items;
@@ -23,17 +25,20 @@ pub struct StagedCode {
     pub(crate) last: Items<Operand>,
     pub(crate) parts: StagedParts,
     pub(crate) spots: Items<Spot>,
+    pub(crate) steps: Items<HeaderStep>,
+    pub(crate) needed: Items<HeaderStep>,
 }
 
 impl Model for StagedCode {
     ghost use Rattle.code_forms.specs.Staged.{Staged, staged_of};
-    ghost use Rattle.code_forms.specs.Spots.{IsKept};
+    ghost use Rattle.code_forms.specs.Needed.{IsKept};
 
     ghost Value = { Staged };
 
     ghost view = { λ s. staged_of s.fields s.arrays s.instrs s.last s.parts };
 
-    ghost invariant = { λ s. IsKept (staged_of s.fields s.arrays s.instrs s.last s.parts) s.spots };
+    ghost invariant = { λ s.
+        IsKept (staged_of s.fields s.arrays s.instrs s.last s.parts) s.spots s.steps s.needed };
 }
 
 impl StagedCode {
@@ -44,13 +49,20 @@ impl StagedCode {
         ensures { IfOk result (λ staged. staged ≡ in_parts code.now parts) }
     {
         let spots = table_of(alloc, code, &parts)?;
+        let flat = code.arrays.as_slice();
+        let instrs = code.instrs.as_slice();
+        let steps = steps_of(alloc, code.fields, instrs, parts.order.as_slice())?;
+        let slots = place_slots(alloc, flat, parts.groups.as_slice(), spots.as_slice())?;
+        let needed = needed_of(alloc, parts.header.as_slice(), slots)?;
         Ok(StagedCode {
             fields: code.fields,
-            arrays: copy_of(alloc, code.arrays.as_slice())?,
-            instrs: Items::from_slice(alloc, code.instrs.as_slice())?,
+            arrays: copy_of(alloc, flat)?,
+            instrs: Items::from_slice(alloc, instrs)?,
             last: Items::from_slice(alloc, code.last.as_slice())?,
             parts,
             spots,
+            steps,
+            needed,
         })
     }
 

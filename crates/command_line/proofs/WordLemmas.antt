@@ -1,14 +1,14 @@
 -- What the answer to the words is, from what the command finds in them.
 use Rattle.std.proofs.Common.{◌≡◌, ◌∙◌, ◌⊎◌, inl, inr, List, [], ◌∷◌, codes, Option, None, refl, sym, ap}
 use Rattle.std.specs.Prelude.{◌≢◌}
-use Rattle.clap.specs.Words.{IsAmong, Kinds, Text, built, first_of, first_value, one_of, one_text, rows_of}
+use Rattle.clap.specs.Words.{IsAmong, Kinds, Text, built, one_of, one_text, rows_of}
 use Rattle.clap.specs.Simple.{argument_words}
 use Rattle.clap.specs.Walk.{nothing_held}
 use Rattle.clap.specs.declared.error.kind.ErrorKind.{ErrorKind}
 use Rattle.clap.specs.declared.error.kind.ErrorKind.TheVariants as kind
 use Rattle.clap.specs.declared.parser.matches.Found.{Found}
 use Rattle.clap.proofs.WalkLemmas.{first_value-rows, one_text-rows}
-use Rattle.command_line.specs.CommandLine.{AsksForHelp, IsRefused, NotTaken, Numbers, arguments, asked, faults, numbers_found, numbers_from, numbers_of, ours, refusal, request_found, request_from, request_of, request_without}
+use Rattle.command_line.specs.CommandLine.{AsksForHelp, IsRefused, NotTaken, arguments, asked, faults, flag_in, numbers_found, numbers_from, numbers_of, ours, refusal, request_found, request_from, request_of, request_without}
 use Rattle.command_line.proofs.OneFault.{IsOne, all_of_one, one_built}
 
 numbers_rows : (f : Found) → numbers_found f ≡ numbers_from (rows_of f)
@@ -20,10 +20,8 @@ numbers_rows f =
 
 request_rows : (f : Found) → request_found f ≡ request_from (rows_of f)
 request_rows f =
-    ap (λ (mode : Option Text). request_of mode (first_value f (codes "program")) (first_value f (codes "capture")) (numbers_found f)) (first_value-rows f (codes "mode"))
-    ∙ ap (λ (program : Option Text). request_of (first_of (codes "mode") (rows_of f)) program (first_value f (codes "capture")) (numbers_found f)) (first_value-rows f (codes "program"))
-    ∙ ap (λ (capture : Option Text). request_of (first_of (codes "mode") (rows_of f)) (first_of (codes "program") (rows_of f)) capture (numbers_found f)) (first_value-rows f (codes "capture"))
-    ∙ ap (λ (numbers : Option Numbers). request_of (first_of (codes "mode") (rows_of f)) (first_of (codes "program") (rows_of f)) (first_of (codes "capture") (rows_of f)) numbers) (numbers_rows f)
+    λ i. request_of (first_value-rows f (codes "mode") i) (first_value-rows f (codes "program") i) (first_value-rows f (codes "capture") i) (numbers_rows f i)
+    (flag_in (first_value-rows f (codes "trace") i)) (flag_in (first_value-rows f (codes "brief") i))
 
 -- words in which there is no error ask for the request of their arguments
 pub asked_is : (words : List Text) (f : Found) → faults words ≡ [] → rows_of f ≡ arguments words → asked words ≡ request_found f

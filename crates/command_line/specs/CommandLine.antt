@@ -1,10 +1,11 @@
 -- The command line, in the words of `clap`'s description of simple commands.
-use Rattle.std.specs.Prelude.{◌≡◌, ◌&&◌, ℕ, pos, Bool, true, not, if◌then◌else◌, nat_eq, nat_le, List, [], ◌∷◌, codes, Option, Some, None, option_and_then}
-use Rattle.std.specs.List.{starts_with}
+use Rattle.std.specs.Prelude.{◌≡◌, ◌≤◌, ◌&&◌, ◌==◌, ℕ, pos, Bool, true, false, if◌then◌else◌, nat_eq, nat_le, List, [], ◌∷◌, codes, Option, Some, None, option_and_then}
+use Rattle.std.specs.List.{starts_with, before_first, after_first}
 use Rattle.std.specs.Str.{bytes_eq}
 use Rattle.std.specs.Str.Parse.{digits_value, without_leading_plus}
 use Rattle.clap.specs.ValueTests.{is_unsigned_in}
 use Rattle.clap.specs.Words.{App, Kinds, Row, Rule, Text, fault_of, first_of, first_value, matches_of, new_app, new_rule, one_of, one_text, with_rule}
+use Rattle.clap.specs.declared.builder.action.ArgAction.TheVariants.{SetTrue}
 use Rattle.clap.specs.declared.builder.value_parser.ValueParser.{ValueParser}
 use Rattle.clap.specs.declared.builder.value_parser.ValueParser.TheVariants as parser
 use Rattle.clap.specs.declared.error.kind.ErrorKind.{ErrorKind}
@@ -12,6 +13,9 @@ use Rattle.clap.specs.declared.error.kind.ErrorKind.TheVariants as kind
 use Rattle.clap.specs.declared.parser.matches.Found.{Found}
 use Rattle.mp5_words.specs.declared.settings.Settings.{Settings}
 use Rattle.mp5_words.specs.declared.settings.TheConstants.{MAX_PIPELINES, MAX_WINDOW, MAX_ROUND}
+use Rattle.command_line.specs.declared.request.TheConstants.{MAX_MADE}
+use Rattle.command_line.specs.declared.request.CaptureName.{CaptureName}
+use Rattle.command_line.specs.declared.request.CaptureName.TheVariants as name
 use Rattle.command_line.specs.declared.request.Mode.{Mode}
 use Rattle.command_line.specs.declared.request.Mode.TheVariants.{One, Plan, Run, Serial}
 use Rattle.command_line.specs.declared.request.WordsFault.{WordsFault}
@@ -25,6 +29,10 @@ required_word id = record (new_rule id) { required = true }
 abbrev pub number : Text → ValueParser → Text → Rule
 number id takes default = record (new_rule id) { long = Some id; parser = Some takes; defaults = default ∷ [] }
 
+-- an option `--id` without a value
+abbrev pub flag : Text → Rule
+flag id = record (new_rule id) { long = Some id; action = Some SetTrue }
+
 -- the numbers from 1 to this one, which `clap` reads as a `u32`
 abbrev pub from_one : ℕ → ValueParser
 from_one most = parser.Signed (pos 1) (pos most)
@@ -33,9 +41,11 @@ from_one most = parser.Signed (pos 1) (pos most)
 abbrev pub any_word : ValueParser
 any_word = parser.Signed (pos 0) (pos 4294967295)
 
--- the command `mp5 MODE PROGRAM CAPTURE` with its four options; `clap` gives it the option for help
+-- the command `mp5 MODE PROGRAM CAPTURE` with its six options; `clap` gives it the option for help
 unfoldable pub ours : App
 ours = with_rule
+    (with_rule
+    (with_rule
     (with_rule
     (with_rule
     (with_rule
@@ -47,7 +57,9 @@ ours = with_rule
     (number (codes "pipelines") (from_one MAX_PIPELINES) (codes "4")))
     (number (codes "window") (from_one MAX_WINDOW) (codes "64")))
     (number (codes "round") (from_one MAX_ROUND) (codes "256")))
-    (number (codes "seed") any_word (codes "0"))
+    (number (codes "seed") any_word (codes "0")))
+    (flag (codes "trace")))
+    (flag (codes "brief"))
 
 -- the kind of the first error in the words, for which a call for help counts; none where the command takes them
 unfoldable pub faults : List Text → Kinds
@@ -64,20 +76,45 @@ pub record Numbers : Type 0 where
   pub round : ℕ
   pub seed : ℕ
 
--- what the words ask for: how to run, the names of the program and of the capture, and the numbers of a switch
+-- what a capture is: the file of this name; or one that is made, of so many packets from this seed
+pub data Origin : Type 0 where
+  File : Text → Origin
+  Made : ℕ → ℕ → Origin
+
+-- what the word for the capture names
+abbrev pub origin_of : CaptureName → Origin
+origin_of (name.File text) = File text.now
+origin_of (name.Made count seed) = Made count seed
+
+-- a capture that is made has no more packets than a capture may have, and its seed is a `u32`
+abbrev pub IsWithin : Origin → Type 0
+IsWithin (File text) = Unit {0}
+IsWithin (Made count seed) = (count ≤ MAX_MADE) × (seed ≤ 4294967295)
+
+-- what the words ask for: how to run, the name of the program, the capture, the numbers of a switch, and whether the report has
+-- the trace and is brief
 pub record Request : Type 0 where
   pub mode : Mode
   pub program : Text
-  pub capture : Text
+  pub capture : Origin
   pub numbers : Numbers
+  pub trace : Bool
+  pub brief : Bool
 
 -- the numbers of settings, and a seed
 abbrev pub numbers_with : Settings → ℕ → Numbers
 numbers_with settings seed = record { pipelines = settings.pipelines; window = settings.window; round = settings.round; seed = seed }
 
--- a mode, a program and a capture as a request, with the numbers of these settings and this seed
-abbrev pub request_with : Mode → Text → Text → Settings → ℕ → Request
-request_with mode program capture settings seed = record { mode = mode; program = program; capture = capture; numbers = numbers_with settings seed }
+-- a mode, a program and a capture as a request, with the numbers of these settings and this seed, and with these flags
+abbrev pub request_with : Mode → Text → Origin → Settings → ℕ → Bool → Bool → Request
+request_with mode program capture settings seed trace brief = record {
+  mode = mode;
+  program = program;
+  capture = capture;
+  numbers = numbers_with settings seed;
+  trace = trace;
+  brief = brief;
+}
 
 -- the number that a text writes: decimal digits, before which one plus may stand, of a `u32`
 abbrev pub number_of : Text → Option ℕ
@@ -110,20 +147,57 @@ mode_of name = if bytes_eq name (codes "one") then Some One
     else (if bytes_eq name (codes "serial") then Some Serial
     else (if bytes_eq name (codes "run") then Some Run else None)))
 
--- the capture is the name of a file: one that begins with `gen:` can't be made yet
-abbrev pub is_file : Text → Bool
-is_file capture = not (starts_with nat_eq capture (codes "gen:"))
+-- ---- captures
 
--- the request for a mode, a program, a capture and numbers
-abbrev pub request_in : Option Mode → Text → Text → Option Numbers → Option Request
-request_in (Some mode) program capture (Some numbers) =
-    if is_file capture then Some (record { mode = mode; program = program; capture = capture; numbers = numbers }) else None
-request_in mode program capture numbers = None
+abbrev pub is_digit : ℕ → Bool
+is_digit c = nat_le 48 c && nat_le c 57
 
--- the request of three words and numbers
-abbrev pub request_of : Option Text → Option Text → Option Text → Option Numbers → Option Request
-request_of (Some mode) (Some program) (Some capture) numbers = request_in (mode_of mode) program capture numbers
-request_of mode program capture numbers = None
+-- a text begins with a digit, and with no zero but where that is all
+abbrev pub is_plain : Text → Bool
+is_plain [] = false
+is_plain (c ∷ []) = is_digit c
+is_plain (c ∷ d ∷ ds) = nat_le 49 c && nat_le c 57
+
+-- a number, where it is no greater than this
+abbrev pub up_to : ℕ → ℕ → Option ℕ
+up_to most n = if nat_le n most then Some n else None
+
+-- the number that a text writes in decimal without a sign and without a zero in front, where it is no greater than this
+abbrev pub plain_number : ℕ → Text → Option ℕ
+plain_number most text = if is_plain text then option_and_then (up_to most) (number_of text) else None
+
+abbrev pub is_colon : ℕ → Bool
+is_colon c = c == 58
+
+abbrev pub made_of : Option ℕ → Option ℕ → Option Origin
+made_of (Some count) (Some seed) = Some (Made count seed)
+made_of count seed = None
+
+-- the capture that is made by two numbers with a colon between them
+abbrev pub made_in : Text → Option Origin
+made_in numbers = made_of (plain_number MAX_MADE (before_first is_colon numbers)) (plain_number 4294967295 (after_first is_colon numbers))
+
+-- the capture that a word names: where it begins with `gen:`, one that is made by the two numbers behind, else a file
+abbrev pub origin_in : Text → Option Origin
+origin_in word = if starts_with nat_eq word (codes "gen:") then made_in (after_first is_colon word) else Some (File word)
+
+-- ---- requests
+
+-- whether a flag is there, which `clap` gives a text
+abbrev pub flag_in : Option Text → Bool
+flag_in None = false
+flag_in (Some text) = bytes_eq text (codes "true")
+
+-- the request for a mode, a program, a capture, numbers and flags
+abbrev pub request_in : Option Mode → Text → Option Origin → Option Numbers → Bool → Bool → Option Request
+request_in (Some mode) program (Some capture) (Some numbers) trace brief =
+    Some (record { mode = mode; program = program; capture = capture; numbers = numbers; trace = trace; brief = brief })
+request_in mode program capture numbers trace brief = None
+
+-- the request of three words, numbers and flags
+abbrev pub request_of : Option Text → Option Text → Option Text → Option Numbers → Bool → Bool → Option Request
+request_of (Some mode) (Some program) (Some capture) numbers trace brief = request_in (mode_of mode) program (origin_in capture) numbers trace brief
+request_of mode program capture numbers trace brief = None
 
 -- the numbers of the arguments
 abbrev pub numbers_from : List Row → Option Numbers
@@ -131,7 +205,9 @@ numbers_from rows = numbers_of (one_of (codes "pipelines") rows) (one_of (codes 
 
 -- the request of the arguments
 abbrev pub request_from : List Row → Option Request
-request_from rows = request_of (first_of (codes "mode") rows) (first_of (codes "program") rows) (first_of (codes "capture") rows) (numbers_from rows)
+request_from rows =
+    request_of (first_of (codes "mode") rows) (first_of (codes "program") rows) (first_of (codes "capture") rows) (numbers_from rows)
+    (flag_in (first_of (codes "trace") rows)) (flag_in (first_of (codes "brief") rows))
 
 -- the numbers of what a parse found
 abbrev pub numbers_found : Found → Option Numbers
@@ -139,7 +215,9 @@ numbers_found f = numbers_of (one_text f (codes "pipelines")) (one_text f (codes
 
 -- the request of what a parse found
 abbrev pub request_found : Found → Option Request
-request_found f = request_of (first_value f (codes "mode")) (first_value f (codes "program")) (first_value f (codes "capture")) (numbers_found f)
+request_found f =
+    request_of (first_value f (codes "mode")) (first_value f (codes "program")) (first_value f (codes "capture")) (numbers_found f)
+    (flag_in (first_value f (codes "trace"))) (flag_in (first_value f (codes "brief")))
 
 -- the same, where there is no error
 abbrev pub request_without : Kinds → List Row → Option Request

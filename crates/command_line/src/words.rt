@@ -1,13 +1,14 @@
-ghost use Rattle.std.specs.Prelude.{◌≡◌, List, [], map, codes, pos, string_bytes, option_map};
-ghost use Rattle.std.specs.Prelude.{IfOk, IfErr, Some, None, false};
-ghost use Rattle.clap.specs.Words.{FailsBy, app_of, found_of, one_text, rows_of, rule_of};
+ghost use Rattle.std.specs.Prelude.{◌≡◌, ◌≤◌, List, [], map, codes, pos, string_bytes, option_map};
+ghost use Rattle.std.specs.Prelude.{IfOk, IfErr, IfSome, Some, None, false};
+ghost use Rattle.std.specs.List.{before_first, after_first};
+ghost use Rattle.clap.specs.Words.{FailsBy, app_of, first_value, found_of, one_text, rows_of, rule_of};
 ghost use Rattle.clap.specs.declared.builder.value_parser.ValueParser.TheVariants as parser;
 ghost use Rattle.command_line.specs.CommandLine as command;
 
-use crate::request::{Mode, Request, WordsFault};
+use crate::request::{CaptureName, MAX_MADE, Mode, Request, WordsFault};
 use clap::builder::ValueParser;
 use clap::error::ErrorKind;
-use clap::{Arg, ArgMatches, Command, Error, value_parser};
+use clap::{Arg, ArgAction, ArgMatches, Command, Error, value_parser};
 use mp5_words::{MAX_PIPELINES, MAX_ROUND, MAX_WINDOW, Settings};
 use std::alloc::{AllocError, Global};
 
@@ -15,10 +16,13 @@ use std::alloc::{AllocError, Global};
 ///
 /// The options are value parsers of `clap` with their ranges and default values: a number is what
 /// `clap`'s parser of a `u32` takes, as `+4` and `04`, and the default value where there is no
-/// option. A number out of its range is refused in every mode.
+/// option. A number out of its range is refused in every mode. The two numbers of a capture that is
+/// made have no sign and no zero in front.
 pub fn asked(alloc: Global, words: &[String]) -> Result<Request<'_>, WordsFault>
     ensures taken { IfOk result (λ r. command.asked (map string_bytes words.entry.now)
-        ≡ Some (command.request_with r.mode r.program.now r.capture.now r.settings r.seed)) }
+        ≡ Some (command.request_with r.mode r.program.now (command.origin_of r.capture)
+        r.settings r.seed r.trace r.brief)) }
+    ensures limited { IfOk result (λ r. command.IsWithin (command.origin_of r.capture)) }
     // Help comes only where the words ask for it, and Words only where they are refused.
     ensures refused { IfErr result (command.NotTaken (map string_bytes words.entry.now)) }
 {
@@ -38,7 +42,7 @@ fn matched<'a>(alloc: Global, words: &'a [String]) -> Result<ArgMatches<'a>, Err
     command.try_get_matches_from(words)
 }
 
-// The command `mp5 MODE PROGRAM CAPTURE` with its four options.
+// The command `mp5 MODE PROGRAM CAPTURE` with its six options.
 fn command<'a>(alloc: Global) -> Result<Command<'a>, AllocError>
     ensures { IfOk result (λ c. app_of c ≡ command.ours) }
 {
@@ -49,7 +53,9 @@ fn command<'a>(alloc: Global) -> Result<Command<'a>, AllocError>
         .arg(number(alloc, "pipelines", from_one(MAX_PIPELINES), "4"))?
         .arg(number(alloc, "window", from_one(MAX_WINDOW), "64"))?
         .arg(number(alloc, "round", from_one(MAX_ROUND), "256"))?
-        .arg(number(alloc, "seed", value_parser!(u32), "0"))?;
+        .arg(number(alloc, "seed", value_parser!(u32), "0"))?
+        .arg(flag(alloc, "trace"))?
+        .arg(flag(alloc, "brief"))?;
     Ok(command)
 }
 
@@ -70,6 +76,14 @@ fn number<'a>(alloc: Global, id: &'a str, parser: ValueParser<'a>, default: &'a 
         .long(id)
         .value_parser(parser)
         .default_value(default)
+}
+
+// An option without a value.
+fn flag<'a>(alloc: Global, id: &'a str) -> Arg<'a>
+    ensures rule { rule_of result ≡ command.flag id.entry.now }
+    ensures own { result.global ≡ false }
+{
+    Arg::new(alloc, id).long(id).action(ArgAction::SetTrue)
 }
 
 // The parser of the numbers from 1 to this one.
@@ -93,7 +107,9 @@ fn refusal(kind: ErrorKind) -> WordsFault
 // The request of the arguments, or Words where they are those of none.
 fn request_of<'a>(matches: &ArgMatches<'a>) -> Result<Request<'a>, WordsFault>
     ensures taken { IfOk result (λ r. command.request_found (found_of matches.now)
-        ≡ Some (command.request_with r.mode r.program.now r.capture.now r.settings r.seed)) }
+        ≡ Some (command.request_with r.mode r.program.now (command.origin_of r.capture)
+        r.settings r.seed r.trace r.brief)) }
+    ensures limited { IfOk result (λ r. command.IsWithin (command.origin_of r.capture)) }
     ensures refused { IfErr result (λ e. (e ≡ WordsFault.Words)
         × (command.request_found (found_of matches.now) ≡ None)) }
 {
@@ -104,15 +120,27 @@ fn request_of<'a>(matches: &ArgMatches<'a>) -> Result<Request<'a>, WordsFault>
     ) else {
         return Err(WordsFault::Words);
     };
-    match (mode_of(mode), numbers_of(matches)) {
-        (Some(mode), Some((settings, seed))) if is_file(capture) => Ok(Request {
+    match (mode_of(mode), capture_of(capture), numbers_of(matches)) {
+        (Some(mode), Some(capture), Some((settings, seed))) => Ok(Request {
             mode,
             program,
             capture,
             settings,
             seed,
+            trace: has_flag(matches, "trace"),
+            brief: has_flag(matches, "brief"),
         }),
         _ => Err(WordsFault::Words),
+    }
+}
+
+// Whether the flag of this name is there.
+fn has_flag(matches: &ArgMatches<'_>, id: &str) -> bool
+    ensures { result ≡ command.flag_in (first_value (found_of matches.now) id.now) }
+{
+    match matches.get_str(id) {
+        Some(text) => text == "true",
+        None => false,
     }
 }
 
@@ -129,11 +157,56 @@ fn mode_of(name: &str) -> Option<Mode>
     }
 }
 
-// Whether the capture is the name of a file, and not one to be made.
-fn is_file(capture: &str) -> bool
-    ensures { result ≡ command.is_file capture.now }
+// The capture that a word names: one that is made, where it begins with `gen:`, else a file.
+fn capture_of<'a>(word: &'a str) -> Option<CaptureName<'a>>
+    ensures named { option_map command.origin_of result ≡ command.origin_in word.entry.now }
+    ensures limited { IfSome result (λ c. command.IsWithin (command.origin_of c)) }
 {
-    !capture.as_bytes().starts_with(b"gen:")
+    if !word.as_bytes().starts_with(b"gen:") {
+        return Some(CaptureName::File(word));
+    }
+    let (_, numbers) = cut_at_colon(word);
+    let (count, seed) = cut_at_colon(numbers);
+    match (plain_number(count, MAX_MADE), plain_number(seed, u32::MAX)) {
+        (Some(count), Some(seed)) => Some(CaptureName::Made { count, seed }),
+        _ => None,
+    }
+}
+
+// What stands before the first colon and behind it; all and nothing where there is none.
+fn cut_at_colon<'a>(text: &'a str) -> (&'a str, &'a str)
+    ensures before { result.0.now ≡ before_first command.is_colon text.entry.now }
+    ensures behind { result.1.now ≡ after_first command.is_colon text.entry.now }
+{
+    match text.split_once(':') {
+        Some(parts) => parts,
+        None => (text, ""),
+    }
+}
+
+// The number that a text writes without a sign and without a zero in front, where it is no greater than this.
+fn plain_number(text: &str, most: u32) -> Option<u32>
+    ensures number { result ≡ command.plain_number most text.now }
+    ensures limited { IfSome result (λ n. n ≤ most) }
+{
+    if !is_plain(text.as_bytes()) {
+        return None;
+    }
+    match text.parse::<u32>() {
+        Ok(number) if number <= most => Some(number),
+        _ => None,
+    }
+}
+
+// Whether a text begins with a digit, and with no zero but where that is all.
+fn is_plain(text: &[u8]) -> bool
+    ensures { result ≡ command.is_plain text.now }
+{
+    match text {
+        [] => false,
+        [digit] => digit.is_ascii_digit(),
+        [first, ..] => b'1' <= *first && *first <= b'9',
+    }
 }
 
 // The settings and the seed of the arguments.
@@ -220,13 +293,23 @@ mod tests {
             ("mp5 --seed 3 -- serial p c", Mode::Serial, "p", "c"),
             ("mp5 serial -- --seed 3", Mode::Serial, "--seed", "3"),
             ("mp5 serial p -- --seed=9", Mode::Serial, "p", "--seed=9"),
+            ("mp5 serial p c --trace", Mode::Serial, "p", "c"),
+            (
+                "mp5 run -- --trace --brief",
+                Mode::Run,
+                "--trace",
+                "--brief",
+            ),
         ] {
             let words = words_of(alloc, line)?;
             match asked(alloc, &words) {
                 Ok(request) => {
                     assert!(rt; request.mode == mode, "the mode of '{line}'");
                     assert_eq!(rt; request.program, program, "the program of '{line}'");
-                    assert_eq!(rt; request.capture, capture, "the capture of '{line}'");
+                    assert!(rt;
+                        request.capture == CaptureName::File(capture),
+                        "the capture of '{line}'"
+                    );
                 }
                 Err(fault) => assert!(rt; false, "'{line}': {fault}"),
             }
@@ -285,6 +368,56 @@ mod tests {
     }
 
     #[test]
+    fn captures_that_are_made(rt: HostRuntime) -> Result<(), Fail> {
+        let alloc = rt.alloc();
+        for (line, count, seed) in [
+            ("mp5 one p gen:0:0", 0, 0),
+            ("mp5 plan p gen:1:7", 1, 7),
+            ("mp5 serial p gen:10:90", 10, 90),
+            ("mp5 run p gen:262144:4294967295", 262144, 4294967295),
+            ("mp5 one -- p gen:100000:12", 100000, 12),
+            ("mp5 one gen:1:1 gen:2:3", 2, 3),
+        ] {
+            let words = words_of(alloc, line)?;
+            match asked(alloc, &words) {
+                Ok(request) => {
+                    assert!(rt;
+                        request.capture == CaptureName::Made { count, seed },
+                        "'{line}'"
+                    );
+                }
+                Err(fault) => assert!(rt; false, "'{line}': {fault}"),
+            }
+        }
+        Ok(())
+    }
+
+    #[test]
+    fn flags_that_are_taken(rt: HostRuntime) -> Result<(), Fail> {
+        let alloc = rt.alloc();
+        for (line, trace, brief) in [
+            ("mp5 run p c", false, false),
+            ("mp5 run p c --trace", true, false),
+            ("mp5 --brief run p c", false, true),
+            ("mp5 one --trace p --brief c", true, true),
+            ("mp5 plan p c --brief --trace", true, true),
+            ("mp5 serial p gen:1:1 --trace --seed 3", true, false),
+            ("mp5 serial --brief -- p c", false, true),
+            ("mp5 serial -- --brief --trace", false, false),
+        ] {
+            let words = words_of(alloc, line)?;
+            match asked(alloc, &words) {
+                Ok(request) => {
+                    assert_eq!(rt; request.trace, trace, "the trace of '{line}'");
+                    assert_eq!(rt; request.brief, brief, "whether '{line}' is brief");
+                }
+                Err(fault) => assert!(rt; false, "'{line}': {fault}"),
+            }
+        }
+        Ok(())
+    }
+
+    #[test]
     fn words_that_are_not_taken(rt: HostRuntime) -> Result<(), Fail> {
         let alloc = rt.alloc();
         for lines in [
@@ -292,7 +425,7 @@ mod tests {
             // Help comes before what is wrong later, and before the mode is judged.
             "mp5 --help --brief|mp5 -hx|mp5 --help --help|mp5 two p c -h",
             "mp5 one p gen:1:1 --help|mp5 --seed 3 --help|mp5 serial p c --pipelines=8 -h",
-            "mp5 -h --pipelines=9|mp5 --help --seed",
+            "mp5 -h --pipelines=9|mp5 --help --seed|mp5 --brief --help|mp5 one p gen: -h",
         ] {
             for line in lines.split('|') {
                 assert_eq!(rt; fault_of(alloc, line)?, Some(WordsFault::Help), "'{line}'");
@@ -300,17 +433,24 @@ mod tests {
         }
         for lines in [
             // What is wrong before a call for help is answered first.
-            "mp5 --brief --help|mp5 -xh|mp5 one p c d --help|mp5 --help=x|mp5 --pipelines 9 -h",
+            "mp5 --brie --help|mp5 -xh|mp5 --brief --brief -h|mp5 one p c d --help|mp5 --help=x|mp5 --pipelines 9 -h",
             "mp5 --window=0 --help|mp5 --seed --help|mp5 --seed 1 --seed 1 -h|mp5 -- --help",
             // No words, too few and too many.
             "|mp5|mp5 one|mp5 one p|mp5 serial|mp5 serial p|mp5 one p c d|mp5 one p c |mp5 help",
-            // No mode, and a capture that would have to be made.
+            // No mode, and a capture that can't be made: one packet or one seed too many, a sign, a zero in front, a
+            // space, a part that is missing, and one too many.
             "mp5 two p c|mp5 One p c|mp5 on p c|mp5 ones p c|mp5  p c|mp5 p one c|mp5 Plan p c",
             "mp5 pla p c|mp5 plans p c|mp5 Serial p c|mp5 seria p c|mp5 serials p c|mp5 Run p c|mp5 runs p c",
-            "mp5 one p gen:1:1|mp5 one p gen:|mp5 one -- p gen:x|mp5 serial p gen:1:1 --seed 3",
+            "mp5 one p gen:262145:1|mp5 one p gen:1:4294967296|mp5 run p gen:4294967297:1",
+            "mp5 one p gen:+1:1|mp5 one p gen:1:+1|mp5 one p gen:-1:1|mp5 one p gen:1:-0",
+            "mp5 one p gen:01:1|mp5 one p gen:1:00|mp5 one p gen:1:01|mp5 one p gen:00:1",
+            "mp5 one p gen:|mp5 one p gen:1|mp5 one p gen:1:|mp5 one p gen::1|mp5 one p gen::",
+            "mp5 one p gen:1:1:|mp5 one p gen:1:1:1|mp5 one p gen:0x1:1|mp5 one p gen:1:1a|mp5 one -- p gen:x",
+            "mp5 plan p gen:1e1:1|mp5 serial p gen:1:1.0|mp5 run p gen:1:~|mp5 run p gen:/:1",
             // Unknown options.
             "mp5 --hel|mp5 --Help|mp5 ---help|mp5 one -p c|mp5 one p -c|mp5 one p -1",
-            "mp5 one p c --brief|mp5 one p --brief c|mp5 --brief --brief|mp5 serial p c --trace",
+            "mp5 one p c --brie|mp5 one p --traces c|mp5 --brief --brief|mp5 serial p c -t",
+            "mp5 one p c --brief=1|mp5 serial p c --trace=true|mp5 run --trace p c --trace",
             "mp5 --version|mp5 -V|mp5 one p c --version|mp5 one p c -V",
             // A number out of its range, in each mode.
             "mp5 one p c --pipelines 0|mp5 plan p c --pipelines 9|mp5 serial p c --pipelines=9",

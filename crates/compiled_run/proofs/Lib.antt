@@ -3,3 +3,4 @@ pub mod GroupLemmas
 pub mod PacketLemmas
 pub mod CellLemmas
 pub mod AnswerLemmas
+pub mod UnitLemmas

@@ -23,7 +23,8 @@ pub fn run<R: Threads + Wait + Sync, F: Fabric>(
 ) -> Result<Answer, NoMemory>
     requires wide { All (λ header. length header ≡ length compiled.now.program.packet.fields)
         capture.now }
-    ensures answer { IfOk result (IsSourceAnswer compiled.now.program capture.now) }
+    ensures answer { IfOk result (IsSourceAnswer compiled.now.program compiled.now.code capture.now
+        settings.now) }
     ensures run { IfOk result (λ a. HasRun
         (source_mark compiled.now.program compiled.now.code capture.now settings.now None)
         (F.seen fabric.old) (F.seen fabric.new)) }

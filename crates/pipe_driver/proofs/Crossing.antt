@@ -74,7 +74,13 @@ staged_sync = view_sync inside.the_row _ _ _ _ (declared_sync inside.the_type (
         items_sync operand.the_row operand_sync,
         (
           parts_sync,
-          (items_sync spot.the_row spot_sync, tt),
+          (
+            items_sync spot.the_row spot_sync,
+            (
+              items_sync step.the_row step_sync,
+              (items_sync step.the_row step_sync, tt),
+            ),
+          ),
         ),
       ),
     ),

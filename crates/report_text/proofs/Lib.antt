@@ -7,5 +7,8 @@ mod PartLemmas
 mod CellLemmas
 mod EntryLemmas
 mod ReportLemmas
+mod SumLemmas
 mod WholeLemmas
+mod EndLemmas
+mod TraceLemmas
 pub mod SourceLemmas

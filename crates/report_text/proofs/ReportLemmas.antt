@@ -22,7 +22,7 @@ pub packets-long : (labels : List (List ℕ)) (s : ℕ) (ps : List (List ℤ)) �
 packets-long labels s [] = refl
 packets-long labels s (p ∷ ps) = ap suc (packets-long labels (s + 1) ps)
 
-rows-long : (n width : ℕ) (words : List ℤ) → length (rows n width words) ≡ n
+pub rows-long : (n width : ℕ) (words : List ℤ) → length (rows n width words) ≡ n
 rows-long zero width words = refl
 rows-long (suc n) width words = ap suc (rows-long n width (drop width words))
 
@@ -41,7 +41,7 @@ packet-found labels s (suc k) t (p ∷ ps) text e less is =
     let there : k < length (packet_lines labels (s + 1) ps) = rest.there in
     record { there = omega (arith, there); same = rest.same }
 
-row-at : (n width : ℕ) (words : List ℤ) (t : ℕ) → t < n → get_or (rows n width words) t [] ≡ packet_at width words t
+pub row-at : (n width : ℕ) (words : List ℤ) (t : ℕ) → t < n → get_or (rows n width words) t [] ≡ packet_at width words t
 row-at zero width words t less = absurd (omega (arith, less))
 row-at (suc n) width words zero less =
     let none : 0 ≡ 0 * width = omega arith in

@@ -1,5 +1,5 @@
 -- The lines of a whole report, part by part.
-use Rattle.std.proofs.Common.{◌≡◌, ◌≤◌, ◌+◌, ◌/◌, ◌%◌, ◌==◌, ℕ, zero, suc, ℤ, List, [], ◌∷◌, ◌++◌, length, map, take, drop, slice_index, append_assoc, Bool, true, false, refl, ap, subst, arith}
+use Rattle.std.proofs.Common.{◌≡◌, ◌≤◌, ◌+◌, ◌/◌, ◌%◌, ◌==◌, ℕ, zero, suc, ℤ, List, [], ◌∷◌, ◌++◌, length, map, take, drop, slice_index, Bool, true, false, refl, ap, subst, arith}
 use Rattle.std.proofs.lemmas.List.{length-append, take-append-drop}
 use Rattle.std.specs.Ordering.{int_eq}
 use Rattle.std.specs.Bool.{OnTrue, OnFalse}
@@ -11,13 +11,14 @@ use Rattle.code_forms.specs.Staged.{Staged}
 use Rattle.switch_net.specs.declared.answer.Answer.{Answer}
 use Rattle.switch_net.specs.Answer.{moves_of}
 use Rattle.report_text.specs.declared.report.Style.{Style}
-use Rattle.report_text.specs.Report.{label, packet_lines, cell_line, cell_lines, done_line}
+use Rattle.report_text.specs.Report.{label, packet_lines, cell_line, cell_lines, cells_in, field_lines, array_lines, done_line}
 use Rattle.report_text.specs.PlanReading.{IsLine, IsBehind}
-use Rattle.report_text.specs.AnswerLines.{access_lines, answer_lines, answer_trace, entry_lines, lines_below, moves_lines, named_unit, packet_at, wanted}
+use Rattle.report_text.specs.AnswerLines.{access_lines, answer_body, answer_lines, answer_trace, entry_lines, lines_below, moves_lines, named_unit, packet_at, wanted}
 use Rattle.report_text.specs.Told.{cells_told}
 use Rattle.report_text.proofs.PlanLemmas.{front-line}
 use Rattle.report_text.proofs.ReportLemmas.{packet-count, plan-count}
 use Rattle.report_text.proofs.PartLemmas.{last-there, last-behind}
+use Rattle.report_text.proofs.SumLemmas.{fields-long, arrays-few}
 
 -- what holds in any case holds where a test is true, and where one that is true isn't
 pub any-true : {P : Type 0} (b : Bool) → P → OnTrue b P
@@ -29,11 +30,7 @@ not-false P true e = tt
 not-false P false e = absurd (cc)
 
 module _ (p : Program) (c : Staged) (a : Answer) (style : Style) where
-  -- the lines of the packets and the cells
-  abbrev pub run_part : List (List ℕ)
-  run_part = packet_lines (map label p.packet.fields) 0 (rows a.arrivals (length p.packet.fields) a.packets.items) ++ cells_told (infos_of p) a.cells.items
-
-  -- those of the plans and the accesses, where they are wanted
+  -- the lines of the plans and the accesses, where they are wanted
   abbrev pub trace_part : List (List ℕ)
   trace_part = wanted style.trace (answer_trace p c a)
 
@@ -41,23 +38,23 @@ module _ (p : Program) (c : Staged) (a : Answer) (style : Style) where
   abbrev pub last_part : List (List ℕ)
   last_part = done_line a.arrivals ∷ []
 
-  parts : run_part ++ (trace_part ++ last_part) ≡ answer_lines p c a style
+  pub parts : answer_body p a style.brief ++ (trace_part ++ last_part) ≡ answer_lines p c a style
   unfolding answer_lines
-  parts = append_assoc (packet_lines (map label p.packet.fields) 0 (rows a.arrivals (length p.packet.fields) a.packets.items)) (cells_told (infos_of p) a.cells.items) (trace_part ++ last_part)
+  parts = refl
 
-  pub run-there : (k : ℕ) (text : List ℕ) → IsLine run_part k text → IsLine (answer_lines p c a style) k text
-  run-there k text is = subst (λ l. IsLine l k text) parts (front-line run_part (trace_part ++ last_part) k text is)
+  pub body-there : (k : ℕ) (text : List ℕ) → IsLine (answer_body p a style.brief) k text → IsLine (answer_lines p c a style) k text
+  body-there k text is = subst (λ l. IsLine l k text) parts (front-line (answer_body p a style.brief) (trace_part ++ last_part) k text is)
 
-  module _ (k left : ℕ) (passed : k ≡ length run_part + left) where
+  module _ (k left : ℕ) (passed : k ≡ length (answer_body p a style.brief) + left) where
     pub trace-there : (text : List ℕ) → IsLine trace_part left text → IsLine (answer_lines p c a style) k text
-    trace-there text is = subst (λ l. IsLine l k text) parts (last-there run_part (trace_part ++ last_part) k left text passed (front-line trace_part last_part left text is))
+    trace-there text is = subst (λ l. IsLine l k text) parts (last-there (answer_body p a style.brief) (trace_part ++ last_part) k left text passed (front-line trace_part last_part left text is))
 
     module _ (rest : ℕ) (traced : left ≡ length trace_part + rest) (text : List ℕ) where
       pub end-there : IsLine last_part rest text → IsLine (answer_lines p c a style) k text
-      end-there is = subst (λ l. IsLine l k text) parts (last-there run_part (trace_part ++ last_part) k left text passed (last-there trace_part last_part left rest text traced is))
+      end-there is = subst (λ l. IsLine l k text) parts (last-there (answer_body p a style.brief) (trace_part ++ last_part) k left text passed (last-there trace_part last_part left rest text traced is))
 
       pub end-behind : IsBehind last_part rest text → IsBehind (answer_lines p c a style) k text
-      end-behind is = subst (λ l. IsBehind l k text) parts (last-behind run_part (trace_part ++ last_part) k left text passed (last-behind trace_part last_part left rest text traced is))
+      end-behind is = subst (λ l. IsBehind l k text) parts (last-behind (answer_body p a style.brief) (trace_part ++ last_part) k left text passed (last-behind trace_part last_part left rest text traced is))
 
 -- ---- how many lines there are
 
@@ -113,14 +110,25 @@ module _ (p : Program) (c : Staged) (a : Answer) where
   wanted-few true = trace-few
   wanted-few false = omega arith
 
-  -- the report has no more lines than these
-  pub all-few : (style : Style) → length (answer_lines p c a style) ≤ a.arrivals + length a.cells.items + (length a.plans.items + length a.by.items) + 1
-  all-few style =
-      let lines = ap length (parts p c a style) in
+  body-few : (brief : Bool) → length (answer_body p a brief) ≤ a.arrivals + length a.cells.items + (length p.packet.fields + length (infos_of p))
+  body-few true =
+      let packets = rows a.arrivals (length p.packet.fields) a.packets.items in
+      let fields = fields-long p.packet.fields 0 packets in
+      let arrays = arrays-few (infos_of p) (cells_in (infos_of p) a.cells.items) in
+      let all = length-append (field_lines p.packet.fields 0 packets) (array_lines (infos_of p) (cells_in (infos_of p) a.cells.items)) in
+      omega (arith, fields, arrays, all)
+  body-few false =
       let packets = packet-count (map label p.packet.fields) a.arrivals (length p.packet.fields) a.packets.items in
       let cells = told-few (infos_of p) a.cells.items in
-      let run = length-append (packet_lines (map label p.packet.fields) 0 (rows a.arrivals (length p.packet.fields) a.packets.items)) (cells_told (infos_of p) a.cells.items) in
+      let all = length-append (packet_lines (map label p.packet.fields) 0 (rows a.arrivals (length p.packet.fields) a.packets.items)) (cells_told (infos_of p) a.cells.items) in
+      omega (arith, packets, cells, all)
+
+  -- the report has no more lines than these
+  pub all-few : (style : Style) → length (answer_lines p c a style) ≤ a.arrivals + length a.cells.items + (length p.packet.fields + length (infos_of p)) + (length a.plans.items + length a.by.items) + 1
+  all-few style =
+      let lines = ap length (parts p c a style) in
+      let body = body-few style.brief in
       let trace = wanted-few style.trace in
       let later = length-append (trace_part p c a style) (last_part p c a style) in
-      let all = length-append (run_part p c a style) (trace_part p c a style ++ last_part p c a style) in
-      omega (arith, lines, packets, cells, run, trace, later, all)
+      let all = length-append (answer_body p a style.brief) (trace_part p c a style ++ last_part p c a style) in
+      omega (arith, lines, body, trace, later, all)

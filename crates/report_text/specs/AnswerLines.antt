@@ -1,6 +1,6 @@
--- The lines of the report of an answer: those of its packets and its cells, with the trace those of its plans and of its
--- accesses, and the last one.
-use Rattle.std.specs.Prelude.{ℕ, zero, suc, ◌+◌, ◌*◌, ◌/◌, ◌%◌, ◌==◌, ℤ, Bool, if◌then◌else◌, List, [], ◌∷◌, ◌++◌, map, flat_map, length, take, drop, slice_index, codes}
+-- The lines of the report of an answer: those of its packets and its cells, or of their sums, with the trace those of its
+-- plans and of its accesses, and the last one.
+use Rattle.std.specs.Prelude.{ℕ, zero, suc, ◌+◌, ◌*◌, ◌/◌, ◌%◌, ◌==◌, ℤ, Bool, if◌then◌else◌, List, [], ◌∷◌, ◌++◌, flat_map, length, take, drop, slice_index, codes}
 use Rattle.capture_io.specs.Rows.{rows}
 use Rattle.domino_tree.specs.declared.program.Program.{Program}
 use Rattle.domino_names.specs.Infos.{infos_of}
@@ -11,7 +11,7 @@ use Rattle.switch_net.specs.declared.answer.Answer.{Answer}
 use Rattle.switch_net.specs.Answer.{moves_of}
 use Rattle.report_text.specs.declared.report.Style.{Style}
 use Rattle.report_text.specs.PlanLines.{spaced_number}
-use Rattle.report_text.specs.Report.{label, packet_lines, register_lines, cells_in, done_line}
+use Rattle.report_text.specs.Report.{cells_in, end_lines, done_line}
 
 -- the lines that a function gives for each number below a limit, in order
 abbrev pub lines_below : (ℕ → List (List ℕ)) → ℕ → List (List ℕ)
@@ -68,9 +68,10 @@ answer_trace p c a = moves_lines 1 (moves_of a.plans.items) ++ lines_below (entr
 abbrev pub wanted : Bool → List (List ℕ) → List (List ℕ)
 wanted trace lines = if trace then lines else []
 
+-- what the run ends with: the sums, or the packets and the registers
+abbrev pub answer_body : Program → Answer → Bool → List (List ℕ)
+answer_body p a brief = end_lines p.packet.fields (infos_of p) (rows a.arrivals (length p.packet.fields) a.packets.items) (cells_in (infos_of p) a.cells.items) brief
+
 -- the lines of the report
 unfoldable pub answer_lines : Program → Staged → Answer → Style → List (List ℕ)
-answer_lines p c a style =
-    packet_lines (map label p.packet.fields) 0 (rows a.arrivals (length p.packet.fields) a.packets.items)
-    ++ (register_lines (infos_of p) (cells_in (infos_of p) a.cells.items)
-    ++ (wanted style.trace (answer_trace p c a) ++ (done_line a.arrivals ∷ [])))
+answer_lines p c a style = answer_body p a style.brief ++ (wanted style.trace (answer_trace p c a) ++ (done_line a.arrivals ∷ []))

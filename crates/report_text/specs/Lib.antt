@@ -9,3 +9,4 @@ pub mod PlanLines
 pub mod PlanReading
 pub mod AnswerLines
 pub mod Told
+pub mod SourceTrace

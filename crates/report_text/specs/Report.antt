@@ -1,13 +1,14 @@
--- The text of a report.
-use Rattle.std.specs.Prelude.{ℕ, ◌+◌, ℤ, if◌then◌else◌, List, [], ◌∷◌, ◌++◌, map, length, take, drop, codes, decimal}
+-- The report of a run: what it ends with, line by line, and the whole text.
+use Rattle.std.specs.Prelude.{ℕ, ◌+◌, ℤ, Bool, if◌then◌else◌, List, [], ◌∷◌, ◌++◌, map, length, take, drop, codes, decimal}
 use Rattle.std.specs.Fmt.{signed_decimal}
 use Rattle.std.specs.List.{flat_map, sum_by}
 use Rattle.std.specs.Ordering.{int_eq}
-use Rattle.capture_io.specs.Rows.{rows}
+use Rattle.mp5_words.specs.Cells.{word_at}
 use Rattle.domino_tree.specs.declared.program.Program.{Program}
 use Rattle.domino_tree.specs.Sequential.{one}
 use Rattle.domino_names.specs.declared.infos.ArrayInfo.{ArrayInfo}
 use Rattle.domino_names.specs.Infos.{infos_of}
+use Rattle.switch_net.specs.Marks.{word_sum}
 
 -- ---- packets
 
@@ -64,32 +65,46 @@ abbrev pub cells_in : List ArrayInfo → List ℤ → List (List ℤ)
 cells_in [] words = []
 cells_in (i ∷ infos) words = take i.length words ∷ cells_in infos (drop i.length words)
 
+-- ---- sums
+
+-- the word of a field in each packet
+abbrev pub column : ℕ → List (List ℤ) → List ℤ
+column field packets = map (λ (packet : List ℤ). word_at packet field) packets
+
+-- a kind, a name, `=` and a word
+abbrev pub sum_line : List ℕ → List ℕ → ℤ → List ℕ
+sum_line kind name z = kind ++ (name ++ (61 ∷ (signed_decimal z ++ (10 ∷ []))))
+
+-- `field F=V`, with the sum over all packets, for each field from a number on
+abbrev pub field_lines : List (List ℕ) → ℕ → List (List ℤ) → List (List ℕ)
+field_lines [] field packets = []
+field_lines (name ∷ names) field packets = sum_line (codes "field ") name (word_sum (column field packets)) ∷ field_lines names (field + 1) packets
+
+-- `array A=V`, with the sum over all its cells, for each array
+abbrev pub array_lines : List ArrayInfo → List (List ℤ) → List (List ℕ)
+array_lines [] cells = []
+array_lines (i ∷ infos) [] = []
+array_lines (i ∷ infos) (c ∷ cells) = sum_line (codes "array ") i.name (word_sum c) ∷ array_lines infos cells
+
 -- ---- the whole
 
 -- `done N`
 abbrev pub done_line : ℕ → List ℕ
 done_line n = codes "done " ++ (decimal n ++ (10 ∷ []))
 
--- the lines of the packets, of the registers, and the last one
-abbrev pub run_lines : List (List ℕ) → List ArrayInfo → List (List ℤ) → List (List ℤ) → ℕ → List (List ℕ)
-run_lines labels infos packets cells n = packet_lines labels 0 packets ++ (register_lines infos cells ++ done_line n ∷ [])
+-- what a run ends with: in brief the sums, else the packets and the registers
+abbrev pub end_lines : List (List ℕ) → List ArrayInfo → List (List ℤ) → List (List ℤ) → Bool → List (List ℕ)
+end_lines names infos packets cells brief =
+    if brief then field_lines names 0 packets ++ array_lines infos cells else packet_lines (map label names) 0 packets ++ register_lines infos cells
+
+-- the same of the sequential run over these headers
+abbrev pub body_lines : Program → List (List ℤ) → Bool → List (List ℕ)
+body_lines p headers brief = end_lines p.packet.fields (infos_of p) (one p headers).packets (one p headers).cells brief
 
 -- lines one after another
 abbrev pub text_of : List (List ℕ) → List ℕ
 text_of = flat_map (λ line. line)
 
--- the text of a run
-abbrev pub run_text : List (List ℕ) → List ArrayInfo → List (List ℤ) → List (List ℤ) → ℕ → List ℕ
-run_text labels infos packets cells n = text_of (run_lines labels infos packets cells n)
-
--- the same, where the packets stand one after another in one list of words, and so do the cells of the arrays
-abbrev pub table_text : List (List ℕ) → List ArrayInfo → ℕ → List ℤ → List ℤ → List ℕ
-table_text labels infos n words cells = run_text labels infos (rows n (length labels) words) (cells_in infos cells) n
-
--- the lines of the report of the sequential run over these headers
-abbrev pub report_lines : Program → List (List ℤ) → List (List ℕ)
-report_lines p headers = run_lines (map label p.packet.fields) (infos_of p) (one p headers).packets (one p headers).cells (length headers)
-
--- the report, which is its lines one after another
-abbrev pub report : Program → List (List ℤ) → List ℕ
-report p headers = text_of (report_lines p headers)
+-- the report of the sequential run over these headers, in brief or not, with the lines of a trace
+abbrev pub report : Program → List (List ℤ) → Bool → List (List ℕ) → List ℕ
+report p headers brief trace = text_of (body_lines p headers brief ++ (trace ++ (done_line (length headers) ∷ [])))

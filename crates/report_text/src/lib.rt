@@ -14,6 +14,7 @@ mod line;
 mod plan_text;
 mod report;
 mod run_text;
+mod sums;
 
 pub use labels::labels_of;
 pub use line::Line;

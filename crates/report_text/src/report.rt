@@ -7,7 +7,7 @@ ghost use Rattle.switch_net.specs.Answer.{moves_of};
 ghost use Rattle.report_text.specs.Room.{fields_room, room_of};
 ghost use Rattle.report_text.specs.Report.{cell_count, done_line, label, packet_lines};
 ghost use Rattle.report_text.specs.PlanReading.{IsLine, IsBehind};
-ghost use Rattle.report_text.specs.AnswerLines.{answer_lines, answer_trace, entry_lines, moves_lines, wanted};
+ghost use Rattle.report_text.specs.AnswerLines.{answer_body, answer_lines, answer_trace, entry_lines, moves_lines, wanted};
 ghost use Rattle.report_text.specs.Told.{AreFewMoves, HasTrace, HaveRoom, IsAtCell, IsAtEntry, IsOfProgram, Puts, cells_told};
 
 use crate::accesses::{EntryPlace, packet_at};
@@ -15,6 +15,7 @@ use crate::cells::CellPlace;
 use crate::code_text::put_done;
 use crate::line::Line;
 use crate::run_text::{put_packet, put_plan};
+use crate::sums::put_sums;
 use code_forms::StagedCode;
 use domino_check::Checked;
 use mp5_words::Name;
@@ -30,8 +31,8 @@ pub struct Style {
     pub brief: bool,
 }
 
-/// The report of a run: its packets, the cells that differ from their start values, with the trace its plans and its
-/// accesses, and the number of arrivals. It keeps where the last lines of the cells and of the accesses stood, so lines
+/// The report of a run: its packets and the cells that differ from their start values, or in brief their sums, with the
+/// trace its plans and its accesses, and the number of arrivals. It keeps where the last lines of the cells and of the accesses stood, so lines
 /// that are read in order search nothing; the lines don't depend on it. Seen as its lines.
 #[derive(Drop)]
 pub struct Report<'a> {
@@ -88,7 +89,9 @@ impl<'a> Report<'a> {
         let cells = self.answer.cells.as_slice().len() as u64;
         let plans = self.answer.plans.as_slice().len() as u64;
         let entries = self.answer.by.as_slice().len() as u64;
-        u64::from(self.answer.arrivals) + cells + (plans + entries) + 1
+        let fields = self.checked.program().packet.fields.as_slice().len() as u64;
+        let arrays = self.checked.arrays().len() as u64;
+        u64::from(self.answer.arrivals) + cells + (fields + arrays) + (plans + entries) + 1
     }
 
     /// Writes line `k` of the report, and says whether there is one. Where there is none the line is empty. Takes no
@@ -101,7 +104,8 @@ impl<'a> Report<'a> {
         ensures room { into.old.room ≤ into.new.room }
     {
         into.clear();
-        match put_run(self.checked, self.answer, &mut self.cells, k, into) {
+        let cells = &mut self.cells;
+        match put_body(self.checked, self.answer, self.style, cells, k, into) {
             None => true,
             Some(left) => {
                 let accesses = &mut self.accesses;
@@ -168,6 +172,35 @@ fn put_run(
     match put_packet_line(names, answer, k, into) {
         None => None,
         Some(left) => cells.put_line(checked.arrays(), &answer.cells, left, into),
+    }
+}
+
+// Puts line `k` of what the run ends with: in brief of the sums, else of the packets and the cells; or says how many lines
+// are left to pass.
+fn put_body(
+    checked: &Checked,
+    answer: &Answer,
+    style: Style,
+    cells: &mut CellPlace,
+    k: u64,
+    into: &mut Line,
+) -> Option<u64>
+    requires packets { length answer.now.packets.items
+        ≡ answer.now.arrivals * length checked.now.packet.fields }
+    requires cells { length answer.now.cells.items ≡ cell_count (infos_of checked.now) }
+    requires place { IsAtCell (infos_of checked.now) answer.now.cells.items
+        cells.old.array cells.old.cell cells.old.at cells.old.before }
+    requires empty { into.old.text ≡ [] }
+    requires room { room_of checked.now ≤ into.old.room }
+    ensures place { IsAtCell (infos_of checked.now) answer.now.cells.items
+        cells.new.array cells.new.cell cells.new.at cells.new.before }
+    ensures line { Puts (answer_body checked.now answer.now style.brief) k result into.new.text }
+    ensures room { into.old.room ≤ into.new.room }
+{
+    if style.brief {
+        put_sums(checked, answer, k, into)
+    } else {
+        put_run(checked, answer, cells, k, into)
     }
 }
 

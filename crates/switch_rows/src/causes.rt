@@ -24,7 +24,7 @@ fn words(rt: HostRuntime) -> Result<(), Fail> {
     for (code, lines) in [
         (
             2,
-            "|mp5|mp5 one|mp5 one p|mp5 one p c |mp5 one p c d|one p c|mp5 p c|mp5 p one c|mp5 one p c --trace",
+            "|mp5|mp5 one|mp5 one p|mp5 one p c |mp5 one p c d|one p c|mp5 p c|mp5 p one c|mp5 one p c --trace=1",
         ),
         (
             2,
@@ -36,11 +36,11 @@ fn words(rt: HostRuntime) -> Result<(), Fail> {
         ),
         (
             2,
-            "mp5 one p gen:1:1|mp5 one p gen:|mp5 one p gen:x|mp5 one -p gen:x|mp5 one p -- gen:1:1",
+            "mp5 one p gen:1|mp5 one p gen:|mp5 one p gen:x|mp5 one -p gen:x|mp5 one p -- gen:01:1|mp5 plan p gen:262145:1",
         ),
         (
             5,
-            "mp5 one p c|mp5 plan p c|-x one p c| one p c|mp5 one c p|mp5 one p p|mp5 one p q|mp5 one p gen|mp5 one p Gen:1:1|mp5 one p |mp5 one p -|mp5 -- one p c",
+            "mp5 one p c|mp5 plan p c|-x one p c| one p c|mp5 one c p|mp5 one p p|mp5 one p q|mp5 one p gen|mp5 one p Gen:1:1|mp5 one p |mp5 one p -|mp5 -- one p c|mp5 one p gen:1:1|mp5 run p c --trace --brief",
         ),
     ] {
         for line in lines.split('|') {

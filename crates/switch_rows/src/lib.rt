@@ -7,4 +7,6 @@ mod causes;
 #[cfg(test)]
 mod fixture;
 #[cfg(test)]
+mod gates;
+#[cfg(test)]
 mod runs;

@@ -12,7 +12,8 @@ use Rattle.command_line.specs.declared.request.WordsFault.{WordsFault}
 use Rattle.command_line.specs.CommandLine.{Request, NotTaken}
 use Rattle.switch_net.specs.Marks.{Runs}
 use Rattle.switch_runner.specs.Networks.{RanFor, RanIn}
-use Rattle.switch_runner.specs.Causes.{answer_of_words, Cause, IsOrNoMemory, IsReadThrough, IsProgram, IsNoProgram, IsSomeCapture, IsNoCapture}
+use Rattle.switch_runner.specs.Causes.{answer_of_words, Cause, IsOrNoMemory, IsReadThrough, IsProgram, IsNoProgram}
+use Rattle.switch_runner.specs.Loads.{Load, load_of, IsSomeLoad, IsNoLoad, IsFile}
 use Rattle.switch_runner.specs.Laws.{Laws, Outputs, StopsAt, texts, request}
 use Rattle.switch_runner.specs.Top.{Serves}
 use Rattle.switch_runner.proofs.CauseLemmas.{program_always, capture_always, complete}
@@ -56,16 +57,16 @@ laws_of_words words store out runs fault h =
           (λ r text f e none through. inr refl) h;
       capture =
           not_taken_asked (texts words) fault
-          (λ a r. (text bytes : List ℕ) (f : CaptureFault) → store.told r.program ≡ Some text → store.told r.capture ≡ Some bytes → IsProgram text → IsNoCapture f bytes → IsReadThrough r store store
+          (λ a r. (text : List ℕ) (load : Load) (f : CaptureFault) → store.told r.program ≡ Some text → load_of r.capture store ≡ Some load → IsProgram text → IsNoLoad f load → IsReadThrough r store store
           → IsOrNoMemory a (status.Capture f))
-          (λ r text bytes f e g p none through. inr refl) h;
+          (λ r text load f e g p none through. inr refl) h;
       complete =
           not_taken_asked (texts words) fault
-          (λ a r. (text bytes : List ℕ) → store.told r.program ≡ Some text → store.told r.capture ≡ Some bytes → IsProgram text → IsSomeCapture bytes → IsReadThrough r store store → a ≢ status.WriteFault
+          (λ a r. (text : List ℕ) (load : Load) → store.told r.program ≡ Some text → load_of r.capture store ≡ Some load → IsProgram text → IsSomeLoad load → IsReadThrough r store store → a ≢ status.WriteFault
           → IsOrNoMemory a status.Done)
-          (λ r text bytes e f p c through wrote. inr refl) h;
+          (λ r text load e f p c through wrote. inr refl) h;
       kept = record { told = λ name. refl; later = λ name. omega arith };
-      names = not_taken_asked (texts words) fault (λ a r. (name : List ℕ) → name ≢ r.program → name ≢ r.capture → store.faults name ≡ store.faults name) (λ r name p c. refl) h;
+      names = not_taken_asked (texts words) fault (λ a r. (name : List ℕ) → name ≢ r.program → ¬ IsFile r.capture name → store.faults name ≡ store.faults name) (λ r name p c. refl) h;
       stops = not_taken_asked (texts words) fault (λ a r. StopsAt r store store a) (λ r. record { answered = λ about. same r.program; told = λ text e isnt. same r.program }) h;
       networks = not_taken_asked (texts words) fault (λ a r. RanIn r.mode (RanFor r store) a runs runs) (λ r. none_ran r.mode (RanFor r store) runs) h;
     }

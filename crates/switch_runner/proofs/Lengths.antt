@@ -1,10 +1,10 @@
--- A run keeps the number of packets, the number of words in each, and the number of cells of each array.
+-- A run keeps the number of cells of each array.
 use Rattle.std.proofs.Common.{◌≡◌, ℤ, List, [], ◌∷◌, length, map, refl, sym, ap, subst, ◌∙◌}
 use Rattle.domino_tree.specs.declared.program.Stmt.{Stmt}
 use Rattle.domino_tree.specs.declared.program.Program.{Program}
 use Rattle.domino_tree.specs.Value.{Names, Array, HasCells, names_of, cell_counts}
 use Rattle.domino_tree.specs.Execution.{State, exec}
-use Rattle.domino_tree.specs.Sequential.{start_cells, untouched, run_from, one}
+use Rattle.domino_tree.specs.Sequential.{start_cells, untouched, run_from}
 use Rattle.domino_tree.proofs.ShapeLemmas.{lengths, exec_keeps, start_has_cells}
 use Rattle.domino_eval.specs.Parts.{Held}
 use Rattle.switch_runner.specs.Running.{run_bench}
@@ -17,22 +17,11 @@ module _ (names : Names) where
   abbrev met : List (List ℤ) → List ℤ → State
   met cells header = record { store = record { fields = header; cells = cells }; touched = untouched names }
 
-  run-packets : (body : List Stmt) (cells headers : List (List ℤ)) → lengths (run_from names body cells headers).packets ≡ lengths headers
-  run-packets body cells [] = refl
-  run-packets body cells (header ∷ headers) =
-      let after : State = exec names body (met cells header) in
-      ap (λ n. n ∷ lengths (run_from names body after.store.cells headers).packets) (exec_keeps names body (met cells header)).0
-      ∙ ap (λ l. length header ∷ l) (run-packets body after.store.cells headers)
-
   pub run-cells : (body : List Stmt) (cells headers : List (List ℤ)) → lengths (run_from names body cells headers).cells ≡ lengths cells
   run-cells body cells [] = refl
   run-cells body cells (header ∷ headers) =
       let after : State = exec names body (met cells header) in
       run-cells body after.store.cells headers ∙ (exec_keeps names body (met cells header)).1
-
--- packet by packet, the numbers of words are those of the headers
-pub one-packets : (p : Program) (headers : List (List ℤ)) → map (λ (c : List ℤ). length c) (one p headers).packets ≡ map (λ (c : List ℤ). length c) headers
-one-packets p headers = run-packets (names_of p) p.function.body (start_cells (names_of p)) headers
 
 -- a bench has the cells of its program, after a run from the start values on too
 pub bench-cells : (p : Program) (bench after : Held) (headers : List (List ℤ)) → bench ≡ record { program = p; cells = start_cells (names_of p) }
@@ -50,7 +39,3 @@ counts_are (i ∷ infos) = ap (λ l. i.length ∷ l) (counts_are infos)
 -- the program declares as many cells as its arrays have
 pub declared-cells : (p : Program) → cell_counts (names_of p) ≡ map (λ (i : ArrayInfo). i.length) (infos_of p)
 declared-cells p = ap (λ (l : List Array). map (λ (d : Array). d.length) l) (sym (infos_are p)) ∙ counts_are (infos_of p)
-
--- each array has as many cells at the end as it is declared with
-pub one-cells : (p : Program) (headers : List (List ℤ)) → lengths (one p headers).cells ≡ map (λ (i : ArrayInfo). i.length) (infos_of p)
-one-cells p headers = run-cells (names_of p) p.function.body (start_cells (names_of p)) headers ∙ start_has_cells (names_of p) ∙ declared-cells p

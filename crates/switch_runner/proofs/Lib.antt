@@ -2,7 +2,6 @@ pub mod Lengths
 pub mod RunLemmas
 pub mod WritingLemmas
 pub mod TransferLemmas
-pub mod ReportLemmas
 pub mod MemoryLemmas
 pub mod TopLemmas
 pub mod CauseLemmas

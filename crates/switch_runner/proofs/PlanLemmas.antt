@@ -1,9 +1,9 @@
--- The lines of a text of code, from one of them on; and that a capture's headers are the code's.
+-- The lines of a text, from one of them on; and that a capture's headers are the code's.
 use Rattle.std.proofs.Common.{◌≡◌, ◌∙◌, ◌≤◌, ◌+◌, ℕ, zero, suc, ℤ, List, [], ◌∷◌, ◌++◌, length, drop, sym, ap, subst}
 use Rattle.std.specs.List.{flat_map}
 use Rattle.std.proofs.lemmas.List.{drop_more, drop_all}
 use Rattle.domino_compile.specs.Compiled.{IsCompiled, Translation}
-use Rattle.report_text.specs.PlanReading.{Planned, AreHeaders, BelongTogether, IsLine, IsBehind, lines_in}
+use Rattle.report_text.specs.PlanReading.{AreHeaders, BelongTogether, IsLine, IsBehind}
 use Rattle.switch_runner.specs.Top.{AreWide}
 
 lines_from : (lines : List (List ℕ)) (k : ℕ) (line : List ℕ) → IsLine lines k line → flat_map (λ l. l) (drop k lines) ≡ line ++ flat_map (λ l. l) (drop (k + 1) lines)
@@ -12,15 +12,15 @@ lines_from lines k line is =
     ∙ ap (λ l. l ++ flat_map (λ (l : List ℕ). l) (drop (k + 1) lines)) (sym is.same)
 
 -- the bytes of a line that was read, and the lines after it
-pub line_and_rest : (now text : Planned) (k : ℕ) (line bytes : List ℕ) → now ≡ text → IsLine (lines_in now) k line → bytes ≡ line
-    → flat_map (λ l. l) (drop k (lines_in text)) ≡ bytes ++ flat_map (λ l. l) (drop (k + 1) (lines_in text))
-line_and_rest now text k line bytes same is e =
-    lines_from (lines_in text) k bytes (subst (λ (l : List ℕ). IsLine (lines_in text) k l) (sym e) (subst (λ (t : Planned). IsLine (lines_in t) k line) same is))
+pub line_and_rest : (now lines : List (List ℕ)) (k : ℕ) (line bytes : List ℕ) → now ≡ lines → IsLine now k line → bytes ≡ line
+    → flat_map (λ l. l) (drop k lines) ≡ bytes ++ flat_map (λ l. l) (drop (k + 1) lines)
+line_and_rest now lines k line bytes same is e =
+    lines_from lines k bytes (subst (λ (l : List ℕ). IsLine lines k l) (sym e) (subst (λ (t : List (List ℕ)). IsLine t k line) same is))
 
 -- no line is left behind the last
-pub no_lines : (now text : Planned) (k : ℕ) (line : List ℕ) → now ≡ text → IsBehind (lines_in now) k line → flat_map (λ l. l) (drop k (lines_in text)) ≡ []
-no_lines now text k line same is =
-    ap (flat_map (λ (l : List ℕ). l)) (drop_all k (lines_in text) (subst (λ (t : Planned). length (lines_in t) ≤ k) same is.past))
+pub no_lines : (now lines : List (List ℕ)) (k : ℕ) (line : List ℕ) → now ≡ lines → IsBehind now k line → flat_map (λ l. l) (drop k lines) ≡ []
+no_lines now lines k line same is =
+    ap (flat_map (λ (l : List ℕ). l)) (drop_all k lines (subst (λ (t : List (List ℕ)). length t ≤ k) same is.past))
 
 -- each header is as wide as all are
 are_headers : (width : ℕ) (headers : List (List ℤ)) → AreWide width headers → AreHeaders width headers

@@ -2,13 +2,10 @@
 use Rattle.std.specs.Prelude.{◌≡◌, ◌≢◌, ◌⊎◌, ◌+◌, ℕ, ℤ, Bool, true, false, List, [], take, codes, IfSome}
 use Rattle.capture_io.specs.declared.fault.CaptureFault.{CaptureFault}
 use Rattle.capture_io.specs.declared.fault.CaptureFault.TheVariants as capture
-use Rattle.capture_io.specs.ClassicCapture.{Record, IsCapture}
-use Rattle.capture_io.specs.Header.{headers}
-use Rattle.capture_io.specs.Refusal.{Refuses}
 use Rattle.domino_tree.specs.declared.program.Program.{Program}
 use Rattle.domino_syntax.specs.declared.fault.TextFault.TheVariants as text_fault
 use Rattle.domino_names.specs.declared.fault.CheckFault.TheVariants as check_fault
-use Rattle.switch_runner.specs.declared.limits.TheConstants.{MAX_TEXT, MAX_CAPTURE}
+use Rattle.switch_runner.specs.declared.limits.TheConstants.{MAX_TEXT}
 use Rattle.switch_runner.specs.declared.outside.StoreFault.{StoreFault}
 use Rattle.switch_runner.specs.declared.outside.StoreFault.TheVariants as store
 use Rattle.domino_compile.specs.declared.fault.ProgramFault.{ProgramFault}
@@ -20,12 +17,19 @@ use Rattle.command_line.specs.declared.request.Mode.{Mode}
 use Rattle.command_line.specs.declared.request.Mode.TheVariants.{One, Plan, Run, Serial}
 use Rattle.command_line.specs.declared.request.WordsFault.{WordsFault}
 use Rattle.command_line.specs.declared.request.WordsFault.TheVariants as words
-use Rattle.command_line.specs.CommandLine.{Request}
+use Rattle.command_line.specs.CommandLine.{Request, numbers_with}
 use Rattle.switch_runner.specs.Outside.{StoreView, SinkView, Rose, TookFront, gained}
+use Rattle.switch_runner.specs.Loads.{Load, load_of, AreHeadersOf, IsSomeLoad, IsNoLoad, RoseIn}
 use Rattle.switch_runner.specs.HelpText.{help_text}
 use Rattle.report_text.specs.RefusalLine.{program_line, refusal_line}
 use Rattle.code_forms.specs.Staged.{Staged}
 use Rattle.domino_compile.specs.Compiled.{IsCompiled}
+use Rattle.mp5_words.specs.declared.settings.Settings.{Settings}
+use Rattle.shard_rounds.specs.declared.plan.Move.{Move}
+use Rattle.run_laws.specs.Run.{run_of}
+use Rattle.run_laws.specs.LawfulPlans.{AreAllPlans}
+use Rattle.report_text.specs.AnswerLines.{wanted}
+use Rattle.report_text.specs.SourceTrace.{trace_lines}
 use Rattle.report_text.specs.Report.{report}
 use Rattle.report_text.specs.PlanLines.{plan_text}
 
@@ -68,40 +72,42 @@ answer_of_store store.NoMemory = status.NoMemory
 abbrev pub IsNoProgram : ProgramFault → List ℕ → Type 0
 IsNoProgram f text = IsUnaccepted f (take (MAX_TEXT + 1) text)
 
--- the told bytes are a capture of some records
-abbrev pub IsSomeCapture : List ℕ → Type 0
-IsSomeCapture bytes = (records : List Record) × IsCapture bytes records
-
--- the told bytes are refused as a capture for this, and for nothing before it; they are read to at most one
--- byte past the limit of 134217728, so that longer ones are too long with 134217729 bytes
-abbrev pub IsNoCapture : CaptureFault → List ℕ → Type 0
-IsNoCapture f bytes = Refuses (take (MAX_CAPTURE + 1) bytes) f
-
--- what is told of the two files can be run: a text that is accepted as a program, and bytes that are a capture
+-- what is told can be run: a text that is accepted as a program, and bytes that are a capture, where it isn't made
 pub record IsRunnable (r : Request) (store : StoreView) : Type 0 where
   pub program : IfSome (store.told r.program) IsProgram
-  pub capture : IfSome (store.told r.capture) IsSomeCapture
+  pub capture : IfSome (load_of r.capture store) IsSomeLoad
 
--- this is what a mode prints of a program and headers: the report of the sequential run, on a network too; or the text of
--- the program's code, with the places of the headers
-abbrev pub IsTextOf : Mode → Program → List (List ℤ) → List ℕ → Type 0
-IsTextOf One p headers text = text ≡ report p headers
-IsTextOf Plan p headers text = (code : Staged) × IsCompiled p code × (text ≡ plan_text p code headers)
-IsTextOf Serial p headers text = text ≡ report p headers
-IsTextOf Run p headers text = text ≡ report p headers
+-- a text is the report of the sequential run, as the request wants it; with the trace it tells some lawful plans, and each
+-- reserved access once under these same plans
+pub record IsReportText (r : Request) (p : Program) (headers : List (List ℤ)) (text : List ℕ) : Type 0 where
+  pub code : Staged
+  pub settings : Settings
+  pub plans : List (List Move)
+  pub compiled : IsCompiled p code
+  pub numbers : r.numbers ≡ numbers_with settings r.numbers.seed
+  pub lawful : AreAllPlans (run_of code headers settings) plans
+  pub is : text ≡ report p headers r.brief (wanted r.trace (trace_lines p code headers settings plans))
 
--- this is what a mode prints of the program that a text is accepted as, and of the headers of the capture that bytes are
-pub record Prints (mode : Mode) (text bytes printed : List ℕ) : Type 0 where
+-- this is what a mode prints of a program and headers: the report of the sequential run, on a network maybe with a trace; or
+-- the text of the program's code, with the places of the headers
+abbrev pub IsTextOf : Mode → Request → Program → List (List ℤ) → List ℕ → Type 0
+IsTextOf One r p headers text = text ≡ report p headers r.brief []
+IsTextOf Plan r p headers text = (code : Staged) × IsCompiled p code × (text ≡ plan_text p code headers)
+IsTextOf Serial r p headers text = IsReportText r p headers text
+IsTextOf Run r p headers text = IsReportText r p headers text
+
+-- this is what a request prints of the program that a text is accepted as, and of the headers of a load
+pub record Prints (r : Request) (text : List ℕ) (load : Load) (printed : List ℕ) : Type 0 where
   pub program : Program
-  pub records : List Record
+  pub headers : List (List ℤ)
   pub accepted : IsAccepted text program
-  pub captured : IsCapture bytes records
-  pub is : IsTextOf mode program (headers program.packet.fields records) printed
+  pub loaded : AreHeadersOf load program.packet.fields headers
+  pub is : IsTextOf r.mode r program headers printed
 
--- where both files are told, this holds of what the request prints of them
+-- where all that is read is told, this holds of what the request prints of it
 abbrev pub OfText : Request → StoreView → (List ℕ → Type 0) → Type 0
-OfText r store P = IfSome (store.told r.program) (λ text. IfSome (store.told r.capture) (λ bytes.
-    (printed : List ℕ) × Prints r.mode text bytes printed × P printed))
+OfText r store P = IfSome (store.told r.program) (λ text. IfSome (load_of r.capture store) (λ load.
+    (printed : List ℕ) × Prints r text load printed × P printed))
 
 -- the count of a name rose
 abbrev pub RoseFor : List ℕ → StoreView → StoreView → Type 0
@@ -113,8 +119,8 @@ Cause status.Done r old new = IsRunnable r old
 Cause status.Help r old new = ⊥
 Cause status.Words r old new = ⊥
 Cause (status.Program f) r old new = (lacks_memory f ≡ false) × IfSome (old.told r.program) (IsNoProgram f)
-Cause (status.Capture f) r old new = (f ≢ capture.NoMemory) × IfSome (old.told r.program) IsProgram × IfSome (old.told r.capture) (IsNoCapture f)
-Cause status.ReadFault r old new = RoseFor r.program old new ⊎ (IfSome (old.told r.program) IsProgram × RoseFor r.capture old new)
+Cause (status.Capture f) r old new = (f ≢ capture.NoMemory) × IfSome (old.told r.program) IsProgram × IfSome (load_of r.capture old) (IsNoLoad f)
+Cause status.ReadFault r old new = RoseFor r.program old new ⊎ (IfSome (old.told r.program) IsProgram × RoseIn r.capture old new)
 Cause status.WriteFault r old new = IsRunnable r old
 Cause status.NoMemory r old new = Unit {0}
 
@@ -126,7 +132,7 @@ Gained answer r store old new = new ≡ old
 
 -- no read of the program or of the capture failed
 abbrev pub IsReadThrough : Request → StoreView → StoreView → Type 0
-IsReadThrough r old new = (¬ RoseFor r.program old new) × (¬ RoseFor r.capture old new)
+IsReadThrough r old new = (¬ RoseFor r.program old new) × (¬ RoseIn r.capture old new)
 
 -- the answer is this one, unless memory ran out
 abbrev pub IsOrNoMemory : Status → Status → Type 0

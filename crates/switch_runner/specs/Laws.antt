@@ -8,7 +8,8 @@ use Rattle.switch_runner.specs.Outside.{StoreView, SinkView, Rose, TookFront, ga
 use Rattle.command_line.specs.CommandLine.{Request, AsksForHelp, IsRefused, asked}
 use Rattle.switch_net.specs.Marks.{Runs}
 use Rattle.switch_runner.specs.Networks.{RanFor, RanIn, runs_network}
-use Rattle.switch_runner.specs.Causes.{Cause, Gained, ComesWhere, IsOrNoMemory, IsReadThrough, IsProgram, IsNoProgram, IsSomeCapture, IsNoCapture, IsAboutProgram, line}
+use Rattle.switch_runner.specs.Loads.{Load, load_of, IsSomeLoad, IsNoLoad, IsFile}
+use Rattle.switch_runner.specs.Causes.{Cause, Gained, ComesWhere, IsOrNoMemory, IsReadThrough, IsProgram, IsNoProgram, IsAboutProgram, line}
 
 -- the bytes of each word
 abbrev pub texts : {Z : Type 0} → List (String Z) → List (List ℕ)
@@ -36,22 +37,22 @@ abbrev pub ProgramAlways : {Z : Type 0} → List (String Z) → StoreView → St
 ProgramAlways words old new answer = IfSome (request words) (λ r. (text : List ℕ) (f : ProgramFault)
     → old.told r.program ≡ Some text → IsNoProgram f text → IsReadThrough r old new → IsOrNoMemory answer (status.Program f))
 
--- where no read failed, told bytes that are refused, under a told program, are always answered by their first
+-- where no read failed, a told capture that is refused, under a told program, is always answered by its first
 -- refusal
 abbrev pub CaptureAlways : {Z : Type 0} → List (String Z) → StoreView → StoreView → Status → Type 0
-CaptureAlways words old new answer = IfSome (request words) (λ r. (text bytes : List ℕ) (f : CaptureFault)
-    → old.told r.program ≡ Some text → old.told r.capture ≡ Some bytes → IsProgram text → IsNoCapture f bytes → IsReadThrough r old new → IsOrNoMemory answer (status.Capture f))
+CaptureAlways words old new answer = IfSome (request words) (λ r. (text : List ℕ) (load : Load) (f : CaptureFault)
+    → old.told r.program ≡ Some text → load_of r.capture old ≡ Some load → IsProgram text → IsNoLoad f load → IsReadThrough r old new → IsOrNoMemory answer (status.Capture f))
 
--- where no read failed, a told program over a told capture is run to its end: no answer comes but Done, or
--- WriteFault where a write failed
+-- where no read failed, a told program over a told capture, or one that is made, is run to its end: no answer comes but
+-- Done, or WriteFault where a write failed
 abbrev pub IsComplete : {Z : Type 0} → List (String Z) → StoreView → StoreView → Status → Type 0
-IsComplete words old new answer = IfSome (request words) (λ r. (text bytes : List ℕ)
-    → old.told r.program ≡ Some text → old.told r.capture ≡ Some bytes → IsProgram text → IsSomeCapture bytes → IsReadThrough r old new
+IsComplete words old new answer = IfSome (request words) (λ r. (text : List ℕ) (load : Load)
+    → old.told r.program ≡ Some text → load_of r.capture old ≡ Some load → IsProgram text → IsSomeLoad load → IsReadThrough r old new
     → answer ≢ status.WriteFault → IsOrNoMemory answer status.Done)
 
--- no count of the store changed but those of the program and of the capture
+-- no count of the store changed but those of the program and of the capture's file
 abbrev pub ReadsAsked : {Z : Type 0} → List (String Z) → StoreView → StoreView → Type 0
-ReadsAsked words old new = IfSome (request words) (λ r. (name : List ℕ) → name ≢ r.program → name ≢ r.capture → new.faults name ≡ old.faults name)
+ReadsAsked words old new = IfSome (request words) (λ r. (name : List ℕ) → name ≢ r.program → ¬ IsFile r.capture name → new.faults name ≡ old.faults name)
 
 -- nothing but the program was read where the answer is about it, and where the told text is no program
 pub record StopsAt (r : Request) (old new : StoreView) (answer : Status) : Type 0 where

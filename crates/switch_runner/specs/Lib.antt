@@ -11,7 +11,9 @@ pub use Rattle.compiled_run.specs.SourceRun
 pub use Rattle.capture_io.specs.ClassicCapture
 pub use Rattle.capture_io.specs.Header
 pub use Rattle.capture_io.specs.Refusal
+pub use Rattle.load_maker.specs.Made
 pub use Rattle.report_text.specs.Report
+pub use Rattle.report_text.specs.SourceTrace
 pub use Rattle.report_text.specs.RefusalLine
 pub use Rattle.report_text.specs.PlanLines
 pub mod Outside
@@ -19,6 +21,7 @@ pub mod Faults
 pub mod Running
 pub mod Writing
 pub mod HelpText
+pub mod Loads
 pub mod Causes
 pub mod Networks
 pub mod Laws

@@ -1,7 +1,5 @@
 -- The networks that a call runs.
 use Rattle.std.specs.Prelude.{◌≡◌, ◌⊎◌, ℕ, ℤ, Bool, true, false, List, Option, Some, None, IfSome}
-use Rattle.capture_io.specs.ClassicCapture.{Record, IsCapture}
-use Rattle.capture_io.specs.Header.{headers}
 use Rattle.mp5_words.specs.declared.settings.Settings.{Settings}
 use Rattle.domino_tree.specs.declared.program.Program.{Program}
 use Rattle.code_forms.specs.Staged.{Staged}
@@ -15,6 +13,7 @@ use Rattle.compiled_run.specs.SourceRun.{source_mark}
 use Rattle.switch_runner.specs.declared.status.Status.{Status}
 use Rattle.switch_runner.specs.declared.status.Status.TheVariants as status
 use Rattle.switch_runner.specs.Outside.{StoreView, Rose}
+use Rattle.switch_runner.specs.Loads.{Load, load_of, AreHeadersOf}
 
 -- whether a mode runs a network
 abbrev pub runs_network : Mode → Bool
@@ -37,18 +36,18 @@ pub record RanOn (mode : Mode) (n : Numbers) (p : Program) (headers : List (List
   pub numbers : n ≡ numbers_with settings n.seed
   pub ran : HasRun (source_mark p code headers settings (seed_in mode n)) old new
 
--- the same of the program that a text is accepted as, and of the headers of the capture that bytes are
-pub record RanOf (mode : Mode) (n : Numbers) (text bytes : List ℕ) (old new : Runs) : Type 0 where
+-- the same of the program that a text is accepted as, and of the headers of a load
+pub record RanOf (mode : Mode) (n : Numbers) (text : List ℕ) (load : Load) (old new : Runs) : Type 0 where
   pub program : Program
-  pub records : List Record
+  pub headers : List (List ℤ)
   pub accepted : IsAccepted text program
-  pub captured : IsCapture bytes records
-  pub ran : RanOn mode n program (headers program.packet.fields records) old new
+  pub loaded : AreHeadersOf load program.packet.fields headers
+  pub ran : RanOn mode n program headers old new
 
--- a network was run; where both files are told, it was that of what they tell
+-- a network was run; where all that is read is told, it was that of what is told
 pub record RanFor (r : Request) (store : StoreView) (old new : Runs) : Type 0 where
   pub rose : Rose old.count new.count
-  pub told : IfSome (store.told r.program) (λ text. IfSome (store.told r.capture) (λ bytes. RanOf r.mode r.numbers text bytes old new))
+  pub told : IfSome (store.told r.program) (λ text. IfSome (load_of r.capture store) (λ load. RanOf r.mode r.numbers text load old new))
 
 -- an answer behind which a network was run, which this is said of: one that prints, and maybe one for want of memory
 abbrev pub RanBy : (Runs → Runs → Type 0) → Status → Runs → Runs → Type 0

@@ -4,18 +4,18 @@ use Rattle.capture_io.specs.declared.fault.CaptureFault.TheVariants as capture
 use Rattle.switch_runner.specs.declared.status.Status.{Status}
 use Rattle.switch_runner.specs.declared.status.Status.TheVariants as status
 use Rattle.domino_tree.specs.declared.program.Program.{Program}
-use Rattle.command_line.specs.declared.request.Mode.{Mode}
 use Rattle.command_line.specs.declared.request.Request.{Request as Words}
-use Rattle.command_line.specs.CommandLine.{Request, request_with}
+use Rattle.command_line.specs.CommandLine.{Origin, Request, origin_of, request_with}
 use Rattle.switch_net.specs.Marks.{Runs}
 use Rattle.switch_runner.specs.Networks.{RanFor, RanIn}
-use Rattle.switch_runner.specs.Causes.{Cause, RoseFor, lacks_memory, IsNoProgram, IsNoCapture, IsTextOf}
+use Rattle.switch_runner.specs.Loads.{load_of, IsNoLoad, IsFile, RoseIn}
+use Rattle.switch_runner.specs.Causes.{Cause, RoseFor, lacks_memory, IsNoProgram, IsTextOf}
 use Rattle.switch_runner.specs.Laws.{Outputs, StopsAt}
 use Rattle.switch_runner.specs.Outside.{StoreView, SinkView, IsKept, Grew, Stopped}
 
 -- what taken words ask for
 abbrev pub words_of : Words → Request
-words_of r = request_with r.mode r.program.now r.capture.now r.settings r.seed
+words_of r = request_with r.mode r.program.now (origin_of r.capture) r.settings r.seed r.trace r.brief
 
 -- each packet has so many words
 abbrev pub AreWide : ℕ → List (List ℤ) → Type 0
@@ -29,12 +29,12 @@ NoSource name old new status.ReadFault = RoseFor name old new
 NoSource name old new status.NoMemory = Unit {0}
 NoSource name old new s = ⊥
 
--- why no capture was read of this name
-abbrev pub NoHeaders : List ℕ → StoreView → StoreView → Status → Type 0
-NoHeaders name old new (status.Capture f) = (f ≢ capture.NoMemory) × IfSome (old.told name) (IsNoCapture f)
-NoHeaders name old new status.ReadFault = RoseFor name old new
-NoHeaders name old new status.NoMemory = Unit {0}
-NoHeaders name old new s = ⊥
+-- why there are no headers
+abbrev pub NoHeaders : Origin → StoreView → StoreView → Status → Type 0
+NoHeaders origin old new (status.Capture f) = (f ≢ capture.NoMemory) × IfSome (load_of origin old) (IsNoLoad f)
+NoHeaders origin old new status.ReadFault = RoseIn origin old new
+NoHeaders origin old new status.NoMemory = Unit {0}
+NoHeaders origin old new s = ⊥
 
 -- how a request ends that prints this text
 abbrev pub Ends : List ℕ → SinkView → SinkView → Status → Type 0
@@ -43,15 +43,22 @@ Ends text old new status.WriteFault = Stopped text old new
 Ends text old new status.NoMemory = new ≡ old
 Ends text old new s = ⊥
 
--- how a request of a mode ends that prints of this program and these headers
-abbrev pub RunEnds : Mode → Program → List (List ℤ) → SinkView → SinkView → Status → Type 0
-RunEnds mode p headers old new s = (text : List ℕ) × IsTextOf mode p headers text × Ends text old new s
+-- how a request ends that prints a text of which this holds
+abbrev pub TextEnds : (List ℕ → Type 0) → SinkView → SinkView → Status → Type 0
+TextEnds P old new status.Done = (text : List ℕ) × P text × Grew text old new
+TextEnds P old new status.WriteFault = (text : List ℕ) × P text × Stopped text old new
+TextEnds P old new status.NoMemory = new ≡ old
+TextEnds P old new s = ⊥
+
+-- how a request ends that prints of this program and these headers
+abbrev pub RunEnds : Request → Program → List (List ℤ) → SinkView → SinkView → Status → Type 0
+RunEnds r p headers = TextEnds (IsTextOf r.mode r p headers)
 
 -- what a request does to the store, to the output and to the fabric's runs, by its answer
 pub record Serves (r : Request) (old new : StoreView) (before after : SinkView) (first last : Runs) (answer : Status) : Type 0 where
   pub cause : Cause answer r old new
   pub outputs : Outputs answer r old before after
   pub kept : IsKept old new
-  pub others : (name : List ℕ) → name ≢ r.program → name ≢ r.capture → new.faults name ≡ old.faults name
+  pub others : (name : List ℕ) → name ≢ r.program → ¬ IsFile r.capture name → new.faults name ≡ old.faults name
   pub stops : StopsAt r old new answer
   pub ran : RanIn r.mode (RanFor r old) answer first last

@@ -17,7 +17,9 @@ Arguments:
              run     the same switch, with a thread for each pipeline
   PROGRAM  the file of the transaction, a text in Domino of at most 65536 bytes
   CAPTURE  the file of the packets, a classic capture (pcap) of Ethernet frames
-           of at most 134217728 bytes; its name can't begin with gen:
+           of at most 134217728 bytes; or gen:COUNT:SEED, for which no file is
+           read: COUNT packets, at most 262144, are made from a seed, which is
+           at most 4294967295
 
 Options:
   --pipelines K  how many pipelines a switch has, from 1 to 8 (default 4)
@@ -26,6 +28,8 @@ Options:
   --round M      how many arrivals a round has, from 1 to 65536 (default 256)
   --seed N       where the order of the steps starts from, from 0 to 4294967295
                  (default 0)
+  --trace        in modes serial and run also prints which pipeline served what
+  --brief        prints sums in place of the packets and the registers
   -h, --help     prints this text on standard error
   --             ends the options, so that the name of a file may begin with -
 
@@ -66,6 +70,9 @@ mod tests {
             "--window",
             "--round",
             "--seed",
+            "--trace",
+            "--brief",
+            "gen:COUNT:SEED",
             "--help",
         ] {
             assert!(rt; text.contains(word), "{word}");

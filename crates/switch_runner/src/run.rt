@@ -16,17 +16,7 @@ use domino_check::{ArrayInfo, Checked};
 use domino_eval::Bench;
 use mp5_words::NoMemory;
 use std::alloc::Global;
-
-/// What stands at the end of a run.
-#[derive(Drop)]
-pub(crate) struct FinalState {
-    /// How many packets there are.
-    pub(crate) count: u32,
-    /// The packets' fields, one packet after another in order of arrival.
-    pub(crate) packets: Vec<i32>,
-    /// The cells, one array after another in order of declaration.
-    pub(crate) cells: Vec<i32>,
-}
+use switch_net::Answer;
 
 /// Executes the transaction on the packet that begins at this word, in its place.
 fn run_packet(bench: &mut Bench<'_>, packets: &mut [i32], start: usize, width: usize)
@@ -113,15 +103,15 @@ fn all_cells(alloc: Global, checked: &Checked, bench: &Bench<'_>) -> Result<Vec<
 }
 
 /// Runs the transaction on one packet after another, in arrival order and in the capture's own table, with
-/// cells that have their start values.
+/// cells that have their start values. The answer has packets and cells, and nothing that only a network has.
 pub(crate) fn run_one(
     alloc: Global,
     checked: &Checked,
     capture: Capture,
-) -> Result<FinalState, NoMemory>
+) -> Result<Answer, NoMemory>
     requires { AreWide (length checked.now.packet.fields) capture }
-    ensures { IfOk result (λ end. IsEnd checked.now capture
-        end.count end.packets.items end.cells.items) }
+    ensures { IfOk result (λ answer. IsEnd checked.now capture
+        answer.arrivals answer.packets.items answer.cells.items) }
 {
     let mut bench = Bench::new(alloc, checked)?;
     let count = capture.count();
@@ -129,9 +119,13 @@ pub(crate) fn run_one(
     let mut packets = capture.into_words();
     run_packets(&mut bench, packets.as_mut_slice(), count, width);
     let cells = all_cells(alloc, checked, &bench)?;
-    Ok(FinalState {
-        count,
+    Ok(Answer {
+        arrivals: count,
         packets,
         cells,
+        counts: Vec::new(alloc),
+        by: Vec::new(alloc),
+        touched: Vec::new(alloc),
+        plans: Vec::new(alloc),
     })
 }

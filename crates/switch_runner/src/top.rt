@@ -1,35 +1,38 @@
 //! The top call: the words, the program, the capture, the run, and what is printed.
-ghost use Rattle.std.specs.Prelude.{◌≡◌, List, length, map, string_bytes, IfOk, IfErr, IfSome, None, false};
+ghost use Rattle.std.specs.Prelude.{◌≡◌, ◌≤◌, List, [], length, map, string_bytes, IfOk, IfErr, IfSome, None, false};
 ghost use Rattle.capture_io.specs.ClassicCapture.{Record, IsCapture};
 ghost use Rattle.capture_io.specs.Header.{headers};
 ghost use Rattle.domino_compile.specs.Accepted.{IsAccepted};
 ghost use Rattle.domino_compile.specs.Compiled.{IsCompiled};
-ghost use Rattle.switch_runner.specs.Causes.{ComesWhere};
-ghost use Rattle.command_line.specs.CommandLine.{AsksForHelp, IsRefused, Request, request_with};
+ghost use Rattle.load_maker.specs.Made as spec;
+ghost use Rattle.command_line.specs.declared.request.TheConstants.{MAX_MADE};
+ghost use Rattle.command_line.specs.CommandLine.{AsksForHelp, File, IsRefused, IsWithin, Request, origin_of, request_with};
+ghost use Rattle.switch_runner.specs.Loads.{AreHeadersOf, ChangesAt, load_of};
+ghost use Rattle.switch_runner.specs.Causes.{ComesWhere, IsReportText};
 ghost use Rattle.switch_runner.specs.Laws.{AskForNone, Because, CaptureAlways, IsComplete, Laws, Networks, ProgramAlways, ReadsAsked, Reports, StopsAtProgram, Tells, request, texts};
 ghost use Rattle.compiled_run.specs.SourceRun.{IsSourceAnswer};
 ghost use Rattle.switch_runner.specs.Networks.{RanBy, RanIn, RanOn, runs_network};
 ghost use Rattle.switch_runner.specs.Outside.{ChangesOnly, IsKept};
 ghost use Rattle.report_text.specs.PlanLines.{plan_text};
 ghost use Rattle.report_text.specs.Report.{report};
-ghost use Rattle.switch_runner.specs.Top.{AreWide, NoSource, NoHeaders, Ends, RunEnds, Serves, words_of};
+ghost use Rattle.switch_runner.specs.Top.{AreWide, NoSource, NoHeaders, Ends, RunEnds, Serves, TextEnds, words_of};
 
 use crate::block::Block;
 use crate::limits::{MAX_CAPTURE, MAX_TEXT};
 use crate::line::write_line;
 use crate::outside::{Failed, Sink, Store};
 use crate::plan::write_plan;
-use crate::report::print_run;
+use crate::report::print_report;
 use crate::run::run_one;
 use crate::status::Status;
 use crate::transfer::read_whole;
 use capture_io::{Capture, read_capture};
-use command_line::{Mode, Request, asked};
+use command_line::{CaptureName, Mode, Request, asked};
 use compiled_run::{run, run_serial};
-use domino_check::Checked;
 use domino_compile::{Compiled, compile};
+use load_maker::make_capture;
 use mp5_words::{FieldNames, NoMemory};
-use report_text::{Line, PlanText};
+use report_text::{Line, PlanText, Style};
 use std::alloc::Global;
 use std::sync::Wait;
 use std::thread::Threads;
@@ -100,7 +103,7 @@ fn run_words<R: Threads + Wait + Sync, S: Store, K: Sink, F: Fabric>(
     }
 }
 
-/// Reads the program and the capture, and then does what the mode says.
+/// Reads the program and the capture, or makes the capture, and then does what the mode says.
 fn serve<R: Threads + Wait + Sync, S: Store, K: Sink, F: Fabric>(
     rt: &R,
     alloc: Global,
@@ -109,6 +112,7 @@ fn serve<R: Threads + Wait + Sync, S: Store, K: Sink, F: Fabric>(
     out: &mut K,
     fabric: &mut F,
 ) -> Status
+    requires { IsWithin (origin_of request.now.capture) }
     ensures serves { Serves (words_of request.now)
         (S.seen store.old) (S.seen store.new) (K.seen out.old) (K.seen out.new)
         (F.seen fabric.old) (F.seen fabric.new) result }
@@ -118,7 +122,8 @@ fn serve<R: Threads + Wait + Sync, S: Store, K: Sink, F: Fabric>(
         Ok(compiled) => compiled,
         Err(status) => return status,
     };
-    let headers = match read_headers(alloc, store, request.capture, compiled.source.field_names()) {
+    let fields = compiled.source.field_names();
+    let headers = match headers_from(alloc, store, &request.capture, fields) {
         Ok(headers) => headers,
         Err(status) => return status,
     };
@@ -136,6 +141,44 @@ fn read_source<S: Store>(alloc: Global, store: &mut S, name: &str) -> Result<Com
     Ok(compile(alloc, &text)?)
 }
 
+/// The headers that are asked for: those of a capture that is read, or of one that is made.
+fn headers_from<S: Store>(
+    alloc: Global,
+    store: &mut S,
+    capture: &CaptureName<'_>,
+    fields: &FieldNames,
+) -> Result<Capture, Status>
+    requires { IsWithin (origin_of capture.now) }
+    ensures only { ChangesAt (origin_of capture.now) (S.seen store.old) (S.seen store.new) }
+    ensures load { IfOk result (λ c. IfSome (load_of (origin_of capture.now) (S.seen store.old))
+        (λ load. AreHeadersOf load fields.now c)) }
+    ensures wide { IfOk result (AreWide (length fields.now)) }
+    ensures refused { IfErr result
+        (NoHeaders (origin_of capture.now) (S.seen store.old) (S.seen store.new)) }
+{
+    match capture {
+        CaptureName::File(name) => read_headers(alloc, store, name, fields),
+        CaptureName::Made { count, seed } => made_headers(alloc, *count, *seed, fields),
+    }
+}
+
+/// Makes a capture.
+fn made_headers(
+    alloc: Global,
+    count: u32,
+    seed: u32,
+    fields: &FieldNames,
+) -> Result<Capture, Status>
+    requires { count ≤ MAX_MADE }
+    ensures made { IfOk result (λ c. c ≡ spec.made_headers count seed fields.now) }
+    ensures refused { IfErr result (λ s. s ≡ Status.NoMemory) }
+{
+    match make_capture(alloc, count, u64::from(seed), fields) {
+        Ok(capture) => Ok(capture),
+        Err(NoMemory) => Err(Status::NoMemory),
+    }
+}
+
 /// Reads a capture.
 fn read_headers<S: Store>(
     alloc: Global,
@@ -146,7 +189,8 @@ fn read_headers<S: Store>(
     ensures only { ChangesOnly name.now (S.seen store.old) (S.seen store.new) }
     ensures read { IfOk result (λ c. (records : List Record) × (c ≡ headers fields.now records)
         × IfSome ((S.seen store.old).told name.now) (λ bytes. IsCapture bytes records)) }
-    ensures refused { IfErr result (NoHeaders name.now (S.seen store.old) (S.seen store.new)) }
+    ensures refused { IfErr result
+        (NoHeaders (File name.now) (S.seen store.old) (S.seen store.new)) }
 {
     let bytes = read_whole(alloc, store, name, MAX_CAPTURE)?;
     Ok(read_capture(alloc, &bytes, fields)?)
@@ -163,7 +207,7 @@ fn run_and_print<R: Threads + Wait + Sync, K: Sink, F: Fabric>(
     fabric: &mut F,
 ) -> Status
     requires { AreWide (length compiled.now.program.packet.fields) headers }
-    ensures ends { RunEnds request.now.mode compiled.now.program headers
+    ensures ends { RunEnds (words_of request.now) compiled.now.program headers
         (K.seen out.old) (K.seen out.new) result }
     ensures ran { RanIn request.now.mode
         (RanOn request.now.mode (words_of request.now).numbers compiled.now.program headers)
@@ -171,7 +215,7 @@ fn run_and_print<R: Threads + Wait + Sync, K: Sink, F: Fabric>(
     ensures fabric { runs_network request.now.mode ≡ false → fabric.new ≡ fabric.old }
 {
     match request.mode {
-        Mode::One => run_in_order(alloc, &compiled.source, headers, out),
+        Mode::One => run_in_order(alloc, compiled, headers, request.brief, out),
         Mode::Plan => print_code(alloc, compiled, &headers, out),
         Mode::Serial => run_in_turns(rt, alloc, request, compiled, &headers, out, fabric),
         Mode::Run => run_on_threads(rt, alloc, request, compiled, &headers, out, fabric),
@@ -189,7 +233,7 @@ fn run_in_turns<R: Threads + Wait + Sync, K: Sink, F: Fabric>(
     fabric: &mut F,
 ) -> Status
     requires { AreWide (length compiled.now.program.packet.fields) headers.now }
-    ensures ends { Ends (report compiled.now.program headers.now)
+    ensures ends { TextEnds (IsReportText (words_of request.now) compiled.now.program headers.now)
         (K.seen out.old) (K.seen out.new) result }
     ensures ran { RanBy (RanOn Mode.Serial (words_of request.now).numbers
         compiled.now.program headers.now) result (F.seen fabric.old) (F.seen fabric.new) }
@@ -204,7 +248,7 @@ fn run_in_turns<R: Threads + Wait + Sync, K: Sink, F: Fabric>(
         request.seed,
     );
     match answer {
-        Ok(answer) => print_answer(alloc, compiled, headers, &answer, out),
+        Ok(answer) => print_answer(alloc, request, compiled, headers, &answer, out),
         Err(NoMemory) => Status::NoMemory,
     }
 }
@@ -220,14 +264,14 @@ fn run_on_threads<R: Threads + Wait + Sync, K: Sink, F: Fabric>(
     fabric: &mut F,
 ) -> Status
     requires { AreWide (length compiled.now.program.packet.fields) headers.now }
-    ensures ends { Ends (report compiled.now.program headers.now)
+    ensures ends { TextEnds (IsReportText (words_of request.now) compiled.now.program headers.now)
         (K.seen out.old) (K.seen out.new) result }
     ensures ran { RanBy (RanOn Mode.Run (words_of request.now).numbers
         compiled.now.program headers.now) result (F.seen fabric.old) (F.seen fabric.new) }
 {
     let answer = run(rt, alloc, fabric, compiled, headers, &request.settings);
     match answer {
-        Ok(answer) => print_answer(alloc, compiled, headers, &answer, out),
+        Ok(answer) => print_answer(alloc, request, compiled, headers, &answer, out),
         Err(NoMemory) => Status::NoMemory,
     }
 }
@@ -235,35 +279,45 @@ fn run_on_threads<R: Threads + Wait + Sync, K: Sink, F: Fabric>(
 /// Writes the report of what a network answers.
 fn print_answer<K: Sink>(
     alloc: Global,
+    request: &Request<'_>,
     compiled: &Compiled,
     headers: &Capture,
     answer: &Answer,
     out: &mut K,
 ) -> Status
     requires wide { AreWide (length compiled.now.program.packet.fields) headers.now }
-    requires answer { IsSourceAnswer compiled.now.program headers.now answer.now }
-    ensures ends { Ends (report compiled.now.program headers.now)
+    requires answer { IsSourceAnswer compiled.now.program compiled.now.code headers.now
+        request.now.settings answer.now }
+    ensures ends { TextEnds (IsReportText (words_of request.now) compiled.now.program headers.now)
         (K.seen out.old) (K.seen out.new) result }
     ensures compiled { IsCompiled compiled.now.program compiled.now.code }
 {
     let _ = headers;
-    print_run(
-        alloc,
-        &compiled.source,
-        answer.arrivals,
-        &answer.packets,
-        &answer.cells,
-        out,
-    )
+    let style = Style {
+        trace: request.trace,
+        brief: request.brief,
+    };
+    print_report(alloc, &compiled.source, &compiled.code, answer, style, out)
 }
 
 /// Runs the transaction on each header in order, and then writes the report.
-fn run_in_order<K: Sink>(alloc: Global, checked: &Checked, headers: Capture, out: &mut K) -> Status
-    requires { AreWide (length checked.now.packet.fields) headers }
-    ensures { Ends (report checked.now headers) (K.seen out.old) (K.seen out.new) result }
+fn run_in_order<K: Sink>(
+    alloc: Global,
+    compiled: &Compiled,
+    headers: Capture,
+    brief: bool,
+    out: &mut K,
+) -> Status
+    requires { AreWide (length compiled.now.program.packet.fields) headers }
+    ensures { Ends (report compiled.now.program headers brief [])
+        (K.seen out.old) (K.seen out.new) result }
 {
-    match run_one(alloc, checked, headers) {
-        Ok(end) => print_run(alloc, checked, end.count, &end.packets, &end.cells, out),
+    let style = Style {
+        trace: false,
+        brief,
+    };
+    match run_one(alloc, &compiled.source, headers) {
+        Ok(answer) => print_report(alloc, &compiled.source, &compiled.code, &answer, style, out),
         Err(NoMemory) => Status::NoMemory,
     }
 }
@@ -271,8 +325,9 @@ fn run_in_order<K: Sink>(alloc: Global, checked: &Checked, headers: Capture, out
 /// Writes the text of the program's code, with the places of each header.
 fn print_code<K: Sink>(alloc: Global, compiled: &Compiled, headers: &Capture, out: &mut K) -> Status
     requires { AreWide (length compiled.now.program.packet.fields) headers.now }
-    ensures { Ends (plan_text compiled.now.program compiled.now.code headers.now)
+    ensures ends { Ends (plan_text compiled.now.program compiled.now.code headers.now)
         (K.seen out.old) (K.seen out.new) result }
+    ensures compiled { IsCompiled compiled.now.program compiled.now.code }
 {
     let Ok(mut text) = PlanText::new(alloc, &compiled.source, &compiled.code, headers) else {
         return Status::NoMemory;

@@ -1,6 +1,6 @@
 use Rattle.std.proofs.Common.{rules, refl}
 use Rattle.command_line.specs.declared.request.Mode.TheVariants.{Run}
-use Rattle.report_text.specs.Report.{report}
+use Rattle.switch_runner.specs.Causes.{IsReportText}
 use Rattle.switch_runner.specs.Networks.{RanOn}
 use Rattle.switch_runner.specs.Top.{words_of}
 use Rattle.switch_runner.proofs.CauseLemmas.{ran_ended}
@@ -13,5 +13,5 @@ run-answer-requires g c = (search rules, (search rules, all_wide _ c.args.header
 pub returns-in-Ok-clause-ran : goal.returns-in-Ok-clause-ran
 returns-in-Ok-clause-ran g c =
     let now = c.args.compiled.now in
-    ran_ended (RanOn Run (words_of c.args.request.now).numbers now.program c.args.headers.now) c.print_answer.result (report now.program c.args.headers.now) _ _ _ _ c.print_answer.ensures.ends
+    ran_ended (RanOn Run (words_of c.args.request.now).numbers now.program c.args.headers.now) c.print_answer.result (IsReportText (words_of c.args.request.now) now.program c.args.headers.now) _ _ _ _ c.print_answer.ensures.ends
     (record { code = now.code; settings = c.args.request.now.settings; compiled = c.print_answer.ensures.compiled; numbers = refl; ran = c.in-Ok.ensures.run })

@@ -1,10 +1,11 @@
-use Rattle.std.proofs.Common.{◌≡◌, ◌∙◌, ◌<◌, ℤ, List, length, fold, sym, ap, subst, arith}
+use Rattle.std.proofs.Common.{◌≡◌, ◌∙◌, ◌-◌, ◌++◌, ℤ, pos, List, length, fold, replicate, sym, ap, subst, arith}
 use Rattle.code_forms.specs.declared.spot.Spot.{Spot}
-use Rattle.code_forms.specs.Staged.{Staged, group_at}
-use Rattle.code_forms.specs.StagedMeaning.{header_words, place_on, place_code, HasUnits, PlacesAreIndexes}
+use Rattle.code_forms.specs.Staged.{Staged}
+use Rattle.code_forms.specs.StagedMeaning.{place_code, HasUnits, PlacesAreIndexes}
 use Rattle.code_forms.specs.Spots.{AreLengths, AreSpots, spot_step}
+use Rattle.code_forms.specs.Needed.{GivesPlaces}
 use Rattle.code_forms.proofs.RunningLemmas.{lengths_fit}
-use Rattle.code_forms.proofs.PlaceLemmas.{header_run, all_places}
+use Rattle.code_forms.proofs.PlaceLemmas.{needed_place, all_places}
 use Rattle.code_forms.proofs.UnitLemmas.{has_units}
 use Rattle.code_forms.proofs.staged.StagedCode.places.Goals as goal
 
@@ -16,12 +17,14 @@ pub returns-clause-places : goal.returns-clause-places
 returns-clause-places c =
     let code : Staged = c.args.self.now in
     let table = subst (λ (s : Staged). AreSpots s c.self.inside.spots) c.self.view_is c.self.invariant.spots in
-    let steps : c.as_slice.result.now ≡ code.header = c.as_slice.ensures ∙ ap (λ (s : Staged). s.header) c.self.view_is in
-    let room : c.run_header.new.room ≡ header_words code c.args.header.now =
-    header_run code c.self.inside.spots c.as_slice-2.result.now c.as_slice.result.now c.args.header.now (length c.args.room.now) c.run_header.new.room table
-    c.requires.header c.requires.room c.as_slice-2.ensures steps (c.run_header.ensures ∙ ap (λ (r : List ℤ). fold (spot_step c.as_slice-2.result.now) r c.as_slice.result.now) c.lay_out.ensures) in
+    let start : List ℤ = c.args.header.now ++ replicate (length c.args.room.now - length c.args.header.now) (pos 0) in
+    let room : c.run_header.new.room ≡ fold (spot_step c.as_slice-2.result.now) start c.self.inside.needed =
+    c.run_header.ensures ∙ (λ j. fold (spot_step c.as_slice-2.result.now) (c.lay_out.ensures j) (c.as_slice.ensures j)) in
+    let needed = subst (λ (s : Staged). GivesPlaces s c.self.inside.needed) c.self.view_is c.self.invariant.needed in
     λ g less.
-    all_places code c.run_header.new.room c.loop-g.out c.loop-g.g (omega arith) c.loop-g.invariant.1 c.loop-g.invariant.2 g less ∙ ap (λ (r : List ℤ). place_code (place_on code r (group_at code g))) room
+    all_places code c.run_header.new.room c.loop-g.out c.loop-g.g (omega arith) c.loop-g.invariant.1 c.loop-g.invariant.2 g less
+    ∙ ap place_code (needed_place code c.self.inside.spots c.as_slice-2.result.now c.self.inside.needed c.args.header.now (length c.args.room.now) c.run_header.new.room table
+    c.requires.header c.requires.room c.as_slice-2.ensures needed room g)
 
 pub returns-clause-indexes : goal.returns-clause-indexes
 returns-clause-indexes c = subst PlacesAreIndexes c.self.view_is c.self.invariant.places

@@ -3,18 +3,19 @@ use Rattle.std.specs.Bool.{OnTrue, OnFalse}
 use Rattle.report_text.specs.Room.{Written}
 use Rattle.report_text.specs.PlanReading.{IsLine, IsBehind}
 use Rattle.report_text.specs.Told.{Told, Puts}
+use Rattle.report_text.specs.AnswerLines.{answer_body}
 use Rattle.report_text.proofs.TextLemmas.{on-true, on-false}
-use Rattle.report_text.proofs.WholeLemmas.{any-true, not-false, run_part, trace_part, last_part, run-there, trace-there, end-there, end-behind}
+use Rattle.report_text.proofs.WholeLemmas.{any-true, not-false, trace_part, last_part, body-there, trace-there, end-there, end-behind}
 use Rattle.report_text.proofs.report.Report.line.Goals as goal
 use Rattle.report_text.proofs.report.Report.line.Goals.{in-None-put_trace, in-Some-put_trace}
 
 pub returns-in-None-clause-there : goal.returns-in-None-clause-there
 returns-in-None-clause-there c =
     let i = c.self.inside in
-    let text = c.put_run.new.into.text in
+    let text = c.put_body.new.into.text in
     subst (λ (t : Told). IsLine t.lines c.args.k text) c.self.view_is
-    (run-there i.checked.now i.code.now i.answer.now i.style c.args.k text
-    (subst (λ (r : Option ℕ). Puts (run_part i.checked.now i.code.now i.answer.now i.style) c.args.k r text) c.in-None.is c.put_run.ensures.line))
+    (body-there i.checked.now i.code.now i.answer.now i.style c.args.k text
+    (subst (λ (r : Option ℕ). Puts (answer_body i.checked.now i.answer.now i.style.brief) c.args.k r text) c.in-None.is c.put_body.ensures.line))
 
 pub returns-after-put_trace-clause-there : goal.returns-after-put_trace-clause-there
 returns-after-put_trace-clause-there c =
