@@ -1,13 +1,15 @@
 //! Runs transactions on a network of pipes, on one thread and on a thread for each pipe, and compares the packets and the
-//! cells with what was worked out by hand.
+//! cells with what was worked out by hand. Offers phantoms to new pipes too, and compares what comes of it.
 #![tactic(auto)]
 
 mod frames;
+mod offers;
 mod row;
 mod run;
 mod trouble;
 
-use row::{Row, row_of};
+use offers::outcome_of;
+use row::{Line, Offer, Row, line_of};
 use run::{Way, answer_to};
 use std::alloc::Global;
 use std::sync::Wait;
@@ -35,18 +37,31 @@ fn compare_rows<R: Print + Input + Threads + Wait + Sync>(
     Ok(())
 }
 
-// Compares a row with what is found for it.
+// Compares what a line says with what is found for it.
 fn compare<R: Print + Threads + Wait + Sync>(
     rt: &R,
     alloc: Global,
     line: &str,
 ) -> Result<(), Trouble> {
-    let Some(row) = row_of(line) else {
-        println!(rt; "no row: {line}")?;
-        return Err(Trouble::Row);
-    };
-    compare_found(rt, alloc, line, &row, Way::Serial(row.numbers[3]))?;
-    compare_found(rt, alloc, line, &row, Way::Parallel)
+    match line_of(line) {
+        Some(Line::Run(row)) => compare_runs(rt, alloc, line, &row),
+        Some(Line::Offer(offer)) => compare_offer(rt, alloc, line, &offer),
+        None => {
+            println!(rt; "no row: {line}")?;
+            Err(Trouble::Row)
+        }
+    }
+}
+
+// Compares a row with what is found for it.
+fn compare_runs<R: Print + Threads + Wait + Sync>(
+    rt: &R,
+    alloc: Global,
+    line: &str,
+    row: &Row<'_>,
+) -> Result<(), Trouble> {
+    compare_found(rt, alloc, line, row, Way::Serial(row.numbers[3]))?;
+    compare_found(rt, alloc, line, row, Way::Parallel)
 }
 
 // Compares a row with what is found for it in one way.
@@ -62,6 +77,23 @@ fn compare_found<R: Print + Threads + Wait + Sync>(
         Ok(())
     } else {
         println!(rt; "{line}\n  {way:?} gives {found}")?;
+        Err(Trouble::Differs)
+    }
+}
+
+// Prints what comes of an offer, and compares it.
+fn compare_offer<R: Print>(
+    rt: &R,
+    alloc: Global,
+    line: &str,
+    offer: &Offer<'_>,
+) -> Result<(), Trouble> {
+    let found = outcome_of(alloc, offer)?;
+    println!(rt; "arrival {} to pipe {}: {found}", offer.arrival, offer.to)?;
+    if found.as_str() == offer.want {
+        Ok(())
+    } else {
+        println!(rt; "{line}\n  gives {found}")?;
         Err(Trouble::Differs)
     }
 }

@@ -30,21 +30,21 @@ pub fn answer_to<R: Threads + Wait + Sync>(
     row: &Row<'_>,
     way: Way,
 ) -> Result<String, Trouble> {
-    let settings = settings_of(row.numbers)?;
+    let settings = settings_of(row.numbers[0], row.numbers[1], row.numbers[2])?;
     let compiled = compiled_of(alloc, row.text)?;
     answer_of(rt, alloc, &compiled, row, &settings, way)
 }
 
-// The settings of a row.
-fn settings_of(numbers: [u32; 4]) -> Result<Settings, Trouble> {
-    match Settings::new(numbers[0], numbers[1], numbers[2]) {
+/// The settings of a row.
+pub fn settings_of(pipelines: u32, window: u32, round: u32) -> Result<Settings, Trouble> {
+    match Settings::new(pipelines, window, round) {
         Some(settings) => Ok(settings),
         None => Err(Trouble::Row),
     }
 }
 
-// The code of a row's program.
-fn compiled_of(alloc: Global, text: &str) -> Result<Compiled, Trouble> {
+/// The code of a row's program.
+pub fn compiled_of(alloc: Global, text: &str) -> Result<Compiled, Trouble> {
     match compile(alloc, text.as_bytes()) {
         Ok(compiled) => Ok(compiled),
         Err(_) => Err(Trouble::Row),
@@ -64,8 +64,8 @@ fn answer_of<R: Threads + Wait + Sync>(
     run(rt, alloc, &compiled.code, &capture, settings, way)
 }
 
-// A row's packets.
-fn packets_of(alloc: Global, packets: &str, names: &FieldNames) -> Result<Capture, Trouble> {
+/// A row's packets.
+pub fn packets_of(alloc: Global, packets: &str, names: &FieldNames) -> Result<Capture, Trouble> {
     let bytes = capture_of(alloc, packets)?;
     headers_of(alloc, &bytes, names)
 }
@@ -128,8 +128,8 @@ fn ended<'a, R: Threads + Wait + Sync>(rt: &R, network: Network<'a>, way: Way) -
     }
 }
 
-// Whether each header has so many words.
-fn is_wide(fields: u32, capture: &Capture) -> bool
+/// Whether each header has so many words.
+pub fn is_wide(fields: u32, capture: &Capture) -> bool
     ensures { IsTrue result → All (λ header. length header ≡ fields) capture.now }
 {
     for t in 0..capture.count() {

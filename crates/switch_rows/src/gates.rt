@@ -1,4 +1,6 @@
 //! Pipes of a network run beside each other: two of them ask their gate at the same time.
+ghost use Rattle.std.specs.Prelude.{◌<◌};
+
 use crate::fixture::{COUNT, COUNTED, packets, sink, store_of, text_of, words_of};
 use std::sync::atomic::{AtomicBool, Ordering};
 use std::test::Fail;
