@@ -13,6 +13,8 @@ pub enum Trouble {
     Outside,
     /// A text that is to be measured isn't a program of the size that is wanted.
     Refused,
+    /// Two ways of doing the same gave different words.
+    Differs,
 }
 
 impl From<NoMemory> for Trouble {
@@ -57,8 +59,18 @@ impl Figure {
         let passed = u64::try_from(passed).unwrap_or(u64::MAX);
         self.nanoseconds = self.nanoseconds.saturating_add(passed);
         self.turns = self.turns.saturating_add(turns as u64);
-        self.sum = self.sum.wrapping_add(sum);
+        self.read(sum);
         Ok(())
+    }
+
+    /// What was read of these turns after they had ended.
+    pub fn read(&mut self, sum: u32) {
+        self.sum = self.sum.wrapping_add(sum);
+    }
+
+    /// Whether the same was read of both.
+    pub fn agrees_with(&self, other: &Figure) -> bool {
+        self.sum == other.sum
     }
 }
 

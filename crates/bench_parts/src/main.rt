@@ -1,5 +1,5 @@
 //! The program `bench_parts`: what the parts of a network of pipelines and the passes of the compiler take, beside
-//! plain loops.
+//! plain loops, and staged code beside the direct execution of its source.
 #![tactic(auto)]
 
 mod figure;
@@ -8,6 +8,7 @@ mod passes;
 mod plans;
 mod queue;
 mod shares;
+mod staged;
 mod visits;
 
 use figure::{Figure, Trouble};
@@ -37,7 +38,7 @@ fn show(
     Ok(())
 }
 
-/// Measures both passes.
+/// Measures the passes of the compiler.
 fn measure_passes<R: Print + Clock>(rt: &R, alloc: Global) -> Result<(), Trouble> {
     let passes = passes::measure(rt, alloc)?;
     show(
@@ -53,12 +54,30 @@ fn measure_passes<R: Print + Clock>(rt: &R, alloc: Global) -> Result<(), Trouble
         passes.flattened,
         "copy 1024 instructions",
         passes.copied,
+    )?;
+    show(
+        rt,
+        "codelets and stages",
+        passes.packed,
+        "copy 1024 instructions",
+        passes.copied,
     )
 }
 
-/// Measures each part in turn.
-fn measure<R: Print + Clock + Wait + Threads + Sync>(rt: &R, alloc: Global) -> Result<(), Trouble> {
-    measure_passes(rt, alloc)?;
+/// Measures staged code.
+fn measure_staged<R: Print + Clock>(rt: &R, alloc: Global) -> Result<(), Trouble> {
+    let runs = staged::measure(rt, alloc)?;
+    show(
+        rt,
+        "staged packet",
+        runs.staged,
+        "direct packet",
+        runs.direct,
+    )
+}
+
+/// Measures announcements and services.
+fn measure_visits<R: Print + Clock>(rt: &R, alloc: Global) -> Result<(), Trouble> {
     let visits = visits::measure(rt, alloc)?;
     let stores = visits::plain(rt, alloc)?;
     show(
@@ -81,30 +100,53 @@ fn measure<R: Print + Clock + Wait + Threads + Sync>(rt: &R, alloc: Global) -> R
         visits.served,
         "read a place and count",
         stores.served,
-    )?;
+    )
+}
+
+/// Measures hops over a lane.
+fn measure_hops<R: Print + Clock + Wait + Threads + Sync>(
+    rt: &R,
+    alloc: Global,
+) -> Result<(), Trouble> {
     let copies = hops::plain(rt, alloc)?;
+    let alone = hops::alone(rt, alloc)?;
     show(
         rt,
         "hop on one thread",
-        hops::alone(rt, alloc)?,
+        alone,
         "copy into a ring and out",
         copies,
     )?;
+    let across = hops::across(rt, alloc)?;
     show(
         rt,
         "hop between two threads",
-        hops::across(rt, alloc)?,
+        across,
         "copy into a ring and out",
         copies,
-    )?;
+    )
+}
+
+/// Measures plans.
+fn measure_plans<R: Print + Clock>(rt: &R, alloc: Global) -> Result<(), Trouble> {
+    let plan = plans::measure(rt, alloc)?;
     let sums = plans::plain(rt, alloc)?;
     show(
         rt,
         "plan over 65536 units",
-        plans::measure(rt, alloc)?,
+        plan,
         "sum by owner, then seek",
         sums,
     )
+}
+
+/// Measures each part in turn.
+fn measure<R: Print + Clock + Wait + Threads + Sync>(rt: &R, alloc: Global) -> Result<(), Trouble> {
+    measure_passes(rt, alloc)?;
+    measure_staged(rt, alloc)?;
+    measure_visits(rt, alloc)?;
+    measure_hops(rt, alloc)?;
+    measure_plans(rt, alloc)
 }
 
 fn main(rt: HostRuntime) -> Result<(), Trouble> {

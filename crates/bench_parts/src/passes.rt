@@ -1,14 +1,16 @@
-//! The compiler's first two passes, on the longest code that is taken.
+//! The compiler's passes up to the stages, on the longest code that is taken.
 ghost use Rattle.std.specs.Prelude.{◌<◌, ◌^◌, IfOk};
 ghost use Rattle.domino_tree.specs.Count.{count_of};
 
 use crate::figure::{Figure, Trouble};
 use branch_removal::remove_branches;
 use code_forms::{FlatCode, GuardCode, Instr};
+use code_graph::codelets;
 use domino_check::{Checked, check};
 use domino_syntax::read_program;
 use mp5_words::NoMemory;
 use ssa_flatten::{MAX_INSTRUCTIONS, flatten};
+use stage_packing::pack;
 use std::alloc::{AllocError, Global};
 use std::rt::Clock;
 use std::time::Instant;
@@ -26,41 +28,56 @@ const ROUNDS: u32 = 145;
 
 const TAIL: &str = "p.n = 1; p.n = 2; p.n = 3; }";
 
-/// The figures of both passes, and of a copy of the instructions.
+/// The figures of the passes, and of a copy of the instructions.
 #[derive(Clone, Copy)]
 pub struct Passes {
     pub removed: Figure,
     pub flattened: Figure,
+    pub packed: Figure,
     pub copied: Figure,
 }
 
-/// Measures both passes on a program of 1,024 instructions.
+// The figures of the passes behind the first, and of a copy of the instructions.
+#[derive(Clone, Copy)]
+struct FlatPasses {
+    flattened: Figure,
+    packed: Figure,
+    copied: Figure,
+}
+
+/// Measures the passes on a program of 1,024 instructions.
 pub fn measure(clock: &impl Clock, alloc: Global) -> Result<Passes, Trouble> {
     let text = text(alloc).map_err(NoMemory::from)?;
     let checked = checked_of(alloc, text.as_str())?;
     let removed = measure_removal(clock, alloc, &checked)?;
     let code = remove_branches(alloc, &checked)?;
-    let (flattened, copied) = measure_code(clock, alloc, &code)?;
+    let flat = measure_code(clock, alloc, &code)?;
     Ok(Passes {
         removed,
-        flattened,
-        copied,
+        flattened: flat.flattened,
+        packed: flat.packed,
+        copied: flat.copied,
     })
 }
 
-// The flattening of this code, and a copy of its instructions.
+// The flattening of this code, its packing, and a copy of its instructions.
 fn measure_code(
     clock: &impl Clock,
     alloc: Global,
     code: &GuardCode,
-) -> Result<(Figure, Figure), Trouble> {
+) -> Result<FlatPasses, Trouble> {
     let flattened = measure_flattening(clock, alloc, code)?;
     let flat = flat_of(alloc, code)?;
     if flat.instrs.len() != MAX_INSTRUCTIONS as usize {
         return Err(Trouble::Refused);
     }
+    let packed = measure_packing(clock, alloc, &flat)?;
     let copied = measure_copies(clock, alloc, flat.instrs.as_slice())?;
-    Ok((flattened, copied))
+    Ok(FlatPasses {
+        flattened,
+        packed,
+        copied,
+    })
 }
 
 fn text(alloc: Global) -> Result<String, AllocError> {
@@ -115,6 +132,24 @@ fn flat_of(alloc: Global, code: &GuardCode) -> Result<FlatCode, Trouble> {
         Ok(flat) => Ok(flat),
         Err(_) => Err(Trouble::Refused),
     }
+}
+
+// The codelets, and the stages that they are packed into.
+fn measure_packing(clock: &impl Clock, alloc: Global, flat: &FlatCode) -> Result<Figure, Trouble> {
+    let mut packed = Figure::none();
+    for _ in 0..TURNS {
+        let start = Instant::now(clock)?;
+        let stages = stages_of(alloc, flat)?;
+        packed.add(clock, start, 1, stages)?;
+    }
+    Ok(packed)
+}
+
+// How many stages this code takes.
+fn stages_of(alloc: Global, flat: &FlatCode) -> Result<u32, NoMemory> {
+    let codelets = codelets(alloc, flat)?;
+    let layout = pack(alloc, flat, &codelets)?;
+    Ok(layout.stages)
 }
 
 fn measure_copies(clock: &impl Clock, alloc: Global, instrs: &[Instr]) -> Result<Figure, Trouble> {
