@@ -14,7 +14,7 @@ use Rattle.code_forms.specs.Staged.{Staged, slot_of_index, operand_word, operand
 use Rattle.code_forms.specs.StagedMeaning.{code_values}
 use Rattle.code_forms.specs.Spots.{no_spot, spot_at, spot_of, spot_value, AreLengths, AreSpots}
 use Rattle.code_forms.specs.Running.{Reads, Steps, RunsTo}
-use Rattle.code_forms.specs.Needed.{Agrees, numbered_step, IsKept}
+use Rattle.code_forms.specs.Needed.{Agrees, numbered_step, steps_of}
 use Rattle.mp5_words.specs.Domain.{Loads, words}
 use Rattle.mp5_words.specs.Words.{op1, op2, hash, cell}
 use Rattle.mp5_words.specs.Cells.{word_at, natural, picked}
@@ -138,19 +138,20 @@ run_step c spots p cells env x staged are within is from loads header long less 
       ∙ ap (word_at (code_values c loads header)) (sym same)
 
 -- the step that the code makes
-pub step_done : (code c : Staged) (spots table : List Spot) (steps kept_steps needed : List HeaderStep) (p : ℕ) (d : HeaderStep) (x : ℤ) (cells env new : List ℤ) → code ≡ c
-    → IsKept code spots kept_steps needed → p < length c.order → steps ≡ kept_steps → table ≡ spots
-    → x ≡ spot_value table cells env (get_or steps p d).instr
+pub step_done : (c : Staged) (spots : List Spot) (steps : List HeaderStep) (p : ℕ) (d : HeaderStep) (x : ℤ) (cells env new : List ℤ)
+    → IsStaged c → AreSpots c spots → steps ≡ steps_of c → p < length c.order
+    → x ≡ spot_value spots cells env (get_or steps p d).instr
     → new ≡ slice_set env (get_or steps p d).slot x → Steps c p cells env new
-step_done code c spots table steps kept_steps needed p d x cells env new view kept within steps_is table_is is new_is =
-    subst (λ (s : Staged). p < length s.order → Steps s p cells env new) view done within where
-      done : p < length code.order → Steps code p cells env new
-      done inside =
-          let step : get_or steps p d ≡ numbered_step code.fields code.instrs (number_at code p) =
-          ap (λ l. get_or l p d) (steps_is ∙ kept.steps) ∙ get_or-map (numbered_step code.fields code.instrs) code.order p 0 d inside in
-          let word : x ≡ spot_value spots cells env (runs code p) = is ∙ (λ j. spot_value (table_is j) cells env (step j).instr) in
-          let written : new ≡ slice_set env (code.fields + number_at code p) x = new_is ∙ (λ j. slice_set env (step j).slot x) in
-          subst (λ n. Steps code p cells env n) (sym written) (run_step code spots p cells env x kept.staged kept.spots inside word)
+step_done c spots steps p d x cells env new staged are kept within is new_is =
+    let step : get_or steps p d ≡ numbered_step c.fields c.instrs (number_at c p) =
+    ap (λ l. get_or l p d) kept ∙ get_or-map (numbered_step c.fields c.instrs) c.order p 0 d within in
+    let word : x ≡ spot_value spots cells env (runs c p) = is ∙ (λ j. spot_value spots cells env (step j).instr) in
+    let written : new ≡ slice_set env (c.fields + number_at c p) x = new_is ∙ (λ j. slice_set env (step j).slot x) in
+    subst (λ n. Steps c p cells env n) (sym written) (run_step c spots p cells env x staged are within word)
+
+-- where the arrays stand, by what the code is seen as
+pub spots_seen : (code c : Staged) (table spots : List Spot) → code ≡ c → table ≡ spots → AreSpots code spots → AreSpots c table
+spots_seen code c table spots view is are = subst (λ s. AreSpots s table) view (subst (λ l. AreSpots code l) (sym is) are)
 
 -- ---- a part
 

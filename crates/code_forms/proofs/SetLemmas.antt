@@ -1,13 +1,10 @@
 -- Marks as a number.
-use Rattle.std.proofs.Common.{◌≡◌, ℕ, ◌+◌, ◌-◌, ◌*◌, ◌^◌, ◌<◌, ◌≤◌, Bool, true, false, List, [], ◌∷◌, length, drop, get_or, sym, ap, ◌∙◌, arith, lit<, lit≤}
-use Rattle.std.proofs.Math.Nat.{pow-suc, pow-le-pow_right}
+use Rattle.std.proofs.Common.{◌≡◌, ℕ, zero, suc, ◌+◌, ◌*◌, ◌^◌, ◌%◌, ◌<◌, Bool, true, false, not, List, [], ◌∷◌, length, get_or, slice_set, sym, ap, subst, ◌∙◌, arith, lit<}
+use Rattle.std.proofs.Math.Nat.{pow-suc}
 use Rattle.std.specs.Int.{from_bool}
-use Rattle.std.proofs.lemmas.List.{length-drop, drop_more}
+use Rattle.std.proofs.lemmas.List.{length-set}
+use Rattle.std.proofs.Math.Pow.{shl_exact}
 use Rattle.mp5_words.specs.Cells.{bits}
-
-bits_cons : (mark : Bool) (marks : List Bool) → bits (mark ∷ marks) ≡ 2 * bits marks + from_bool mark
-bits_cons true marks = omega arith
-bits_cons false marks = omega arith
 
 -- so many marks give no more than so many bits
 bits_lt : (marks : List Bool) → bits marks < 2 ^ length marks
@@ -15,32 +12,38 @@ bits_lt [] = lit< tt
 bits_lt (true ∷ marks) = rw pow-suc (omega (arith, bits_lt marks))
 bits_lt (false ∷ marks) = rw pow-suc (omega (arith, bits_lt marks))
 
--- fewer than 16 marks give fewer than 15 bits
-pub bits_fit : (marks : List Bool) (k set : ℕ) → length marks ≤ 16 → k < length marks → set ≡ bits (drop (length marks - k) marks) → set < 32768
-bits_fit marks k set few within is =
-    let rest : List Bool = drop (length marks - k) marks in
-    let counted : length rest ≡ length marks - (length marks - k) = length-drop (length marks - k) marks in
-    let small : length rest ≤ 15 = omega (arith, counted) in
-    let most : 2 ^ length rest ≤ 32768 = pow-le-pow_right (lit< tt) small in
-    omega (arith, is, bits_lt rest, most)
+doubled : (mark : Bool) (n : ℕ) → from_bool mark * (n * 2) ≡ 2 * (from_bool mark * n)
+doubled true n = omega arith
+doubled false n = omega arith
 
-bit_le : (mark : Bool) → from_bool mark ≤ 1
-bit_le true = lit≤ tt
-bit_le false = lit≤ tt
+-- a mark adds its bit, where it isn't there
+bits_set : (marks : List Bool) (a : ℕ) (d : Bool) → a < length marks
+    → bits (slice_set marks a true) ≡ bits marks + from_bool (not (get_or marks a d)) * 2 ^ a
+bits_set [] a d less = elim less [ ]
+bits_set (true ∷ marks) zero d less = omega arith
+bits_set (false ∷ marks) zero d less = omega arith
+bits_set (true ∷ marks) (suc a) d less =
+    let rest = bits_set marks a d (omega (arith, less)) in
+    rw pow-suc (omega (arith, rest, doubled (not (get_or marks a d)) (2 ^ a)))
+bits_set (false ∷ marks) (suc a) d less =
+    let rest = bits_set marks a d (omega (arith, less)) in
+    rw pow-suc (omega (arith, rest, doubled (not (get_or marks a d)) (2 ^ a)))
 
-pub bit_small : (n : ℕ) (mark : Bool) → n ≡ from_bool mark → n ≤ 1
-bit_small n mark is = omega (arith, is, bit_le mark)
+bit_of_16 : (mark : Bool) (a : ℕ) → a < 16 → (from_bool mark * 2 ^ a) % 65536 ≡ from_bool mark * 2 ^ a
+bit_of_16 true a less = shl_exact 1 a 16 (lit< tt) (omega (arith, less))
+bit_of_16 false a less = shl_exact 1 a 16 (lit< tt) (omega (arith, less))
 
--- the set of the last marks with one more before them
-pub bits_more : (marks : List Bool) (k set n : ℕ) (d : Bool) → k < length marks → set ≡ bits (drop (length marks - k) marks)
-    → n ≡ from_bool (get_or marks (length marks - 1 - k) d) → 2 * set + n ≡ bits (drop (length marks - (k + 1)) marks)
-bits_more marks k set n d within is as_number =
-    let i : ℕ = length marks - 1 - k in
-    let inside : i < length marks = omega arith in
-    let last : length marks - (k + 1) ≡ i = omega arith in
-    let next : length marks - k ≡ i + 1 = omega arith in
-    (λ j. 2 * is j + as_number j)
-    ∙ (λ j. 2 * bits (drop (next j) marks) + from_bool (get_or marks i d))
-    ∙ sym (bits_cons (get_or marks i d) (drop (i + 1) marks))
-    ∙ ap bits (sym (drop_more marks i d inside))
-    ∙ ap (λ m. bits (drop m marks)) (sym last)
+-- the number of the marks with one more
+pub added_bit : (marks : List Bool) (set a n : ℕ) (d : Bool) → length marks ≡ 16 → a < 16 → set ≡ bits marks
+    → n ≡ from_bool (not (get_or marks a d)) → set + (n * 2 ^ a) % 65536 ≡ bits (slice_set marks a true)
+added_bit marks set a n d long less is bit =
+    let inside : a < length marks = omega (arith, less, long) in
+    (λ j. is j + (bit j * 2 ^ a) % 65536)
+    ∙ ap (λ x. bits marks + x) (bit_of_16 (not (get_or marks a d)) a less)
+    ∙ sym (bits_set marks a d inside)
+
+pub added_fits : (marks : List Bool) (x a : ℕ) → length marks ≡ 16 → x ≡ bits (slice_set marks a true) → x < 65536
+added_fits marks x a long is =
+    let few : length (slice_set marks a true) ≡ 16 = length-set marks a true ∙ long in
+    let most : bits (slice_set marks a true) < 2 ^ 16 = subst (λ n. bits (slice_set marks a true) < 2 ^ n) few (bits_lt (slice_set marks a true)) in
+    omega (arith, is, most)

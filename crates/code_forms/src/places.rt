@@ -67,7 +67,7 @@ fn run_header(steps: &[HeaderStep], spots: &[Spot], room: &mut [i32])
     ensures { room.new ≡ fold (spot_step spots.now) room.old steps.now }
 {
     for step in steps {
-        let word = value_of(step.instr, spots, room, &[]);
+        let word = value_of(&step.instr, spots, room, &[]);
         put(room, step.slot as usize, word);
     }
 }

@@ -3,9 +3,12 @@ ghost use Rattle.std.specs.Prelude.{◌≡◌, ◌+◌, ◌*◌, ◌<◌, ◌≤
 ghost use Rattle.code_forms.specs.Running.{Steps, RunsPart};
 ghost use Rattle.code_forms.specs.Staged.{operand_word, point, block_start, group_start, IsStaged};
 ghost use Rattle.code_forms.specs.StagedMeaning.{Leads, Always, IsUnplaced, Finishes};
+ghost use Rattle.code_forms.specs.Spots.{AreSpots};
+ghost use Rattle.code_forms.specs.Needed.{steps_of};
 
 use crate::flat::Operand;
-use crate::spot::{operand_word, value_of};
+use crate::parts::HeaderStep;
+use crate::spot::{Spot, operand_word, value_of};
 use crate::staged::StagedCode;
 
 // Writes a word to a place. Past them all nothing is written.
@@ -44,13 +47,16 @@ impl StagedCode {
         write_last(self.last.as_slice(), env, fields);
     }
 
-    // Runs the instruction at a place of the order.
-    fn step(&self, p: usize, env: &mut [i32], cells: &[i32])
-        requires { p < length self.now.order }
+    // Runs the instruction at a place of the order, of these steps and with this table of arrays, which are the code's.
+    fn step(&self, steps: &[HeaderStep], spots: &[Spot], p: usize, env: &mut [i32], cells: &[i32])
+        requires place { p < length self.now.order }
+        requires staged { IsStaged self.now }
+        requires spots { AreSpots self.now spots.now }
+        requires steps { steps.now ≡ steps_of self.now }
         ensures { Steps self.now p cells.now env.old env.new }
     {
-        let step = self.steps.as_slice()[p];
-        let word = value_of(step.instr, self.spots.as_slice(), env, cells);
+        let step = &steps[p];
+        let word = value_of(&step.instr, spots, env, cells);
         put(env, step.slot as usize, word);
     }
 
@@ -62,8 +68,10 @@ impl StagedCode {
     {
         let from = self.point(k);
         let to = self.point(k + 1);
+        let steps = self.steps.as_slice();
+        let spots = self.spots.as_slice();
         for p in from..to {
-            self.step(p, env, cells);
+            self.step(steps, spots, p, env, cells);
         }
     }
 

@@ -6,7 +6,7 @@ ghost use Rattle.code_forms.specs.StagedMeaning.{is_open, array_set, Leads, IsPl
 ghost use Rattle.code_forms.specs.Spots.{spot_store, mark_open};
 
 use crate::flat::{FlatArray, Operand};
-use crate::sets::{mark, set_of};
+use crate::sets::added;
 use crate::spot::{Spot, cell_at, operand_word, spot_of};
 use crate::staged::StagedCode;
 use crate::unit::Unit;
@@ -64,10 +64,11 @@ fn touched_set(flat: &[FlatArray], arrays: &[u32], env: &[i32]) -> u16
     ensures { result ≡ bits (fold (mark_open flat.now env.now) (replicate 16 false) arrays.now) }
 {
     let mut marks = [false; 16];
+    let mut set = 0;
     for array in arrays {
-        mark(&mut marks, *array, is_touched(flat, *array, env));
+        set = added(set, &mut marks, *array, is_touched(flat, *array, env));
     }
-    set_of(&marks)
+    set
 }
 
 // The set of these arrays.
@@ -75,10 +76,11 @@ fn set_of_arrays(arrays: &[u32]) -> u16
     ensures { result ≡ array_set arrays.now }
 {
     let mut marks = [false; 16];
+    let mut set = 0;
     for array in arrays {
-        mark(&mut marks, *array, true);
+        set = added(set, &mut marks, *array, true);
     }
-    set_of(&marks)
+    set
 }
 
 /// Whether some guard of an array isn't 0.

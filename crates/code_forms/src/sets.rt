@@ -1,25 +1,29 @@
 //! Sets of arrays as numbers.
-ghost use Rattle.std.specs.Prelude.{◌≡◌, ◌≤◌, true, if◌then◌else◌, length, slice_set};
+ghost use Rattle.std.specs.Prelude.{◌≡◌, true, if◌then◌else◌, slice_set};
 ghost use Rattle.mp5_words.specs.Cells.{bits};
 
-/// Marks an array, where it is to be marked.
-pub(crate) fn mark(marks: &mut [bool; 16], array: u32, is_marked: bool)
-    ensures { marks.new ≡ (if is_marked then slice_set marks.old array true else marks.old) }
+/// Marks an array, where it is to be marked, beside others whose number is `set`. Gives the number of them all.
+pub(crate) fn added(set: u16, marks: &mut [bool; 16], array: u32, is_marked: bool) -> u16
+    requires { set ≡ bits marks.old }
+    ensures marks { marks.new ≡ (if is_marked then slice_set marks.old array true else marks.old) }
+    ensures set { result ≡ bits marks.new }
 {
-    if is_marked && (array as usize) < marks.len() {
-        marks[array as usize] = true;
+    if !is_marked {
+        return set;
     }
+    with_mark(set, marks, array as usize)
 }
 
-/// The marked arrays as a number: bit `a` for array `a`.
-pub(crate) fn set_of(marks: &[bool]) -> u16
-    requires { length marks.now ≤ 16 }
-    ensures { result ≡ bits marks.now }
+// Marks a place, and gives the number of all marks.
+fn with_mark(set: u16, marks: &mut [bool; 16], place: usize) -> u16
+    requires { set ≡ bits marks.old }
+    ensures marks { marks.new ≡ slice_set marks.old place true }
+    ensures set { result ≡ bits marks.new }
 {
-    let mut set = 0;
-    let count = marks.len();
-    for k in 0..count {
-        set = 2 * set + u16::from(marks[count - 1 - k]);
+    if place >= 16 {
+        return set;
     }
-    set
+    let is_new = !marks[place];
+    marks[place] = true;
+    set + (u16::from(is_new) << place)
 }

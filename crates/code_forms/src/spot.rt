@@ -74,31 +74,29 @@ pub(crate) fn index_at(env: &[i32], slot: u32) -> u32
 
 /// The word that an instruction gives on words in slots and the cells of a unit.
 #[inline(always)]
-pub(crate) fn value_of(instr: Instr, spots: &[Spot], env: &[i32], cells: &[i32]) -> i32
+pub(crate) fn value_of(instr: &Instr, spots: &[Spot], env: &[i32], cells: &[i32]) -> i32
     requires { AreLengths spots.now }
-    ensures { result ≡ spot_value spots.now cells.now env.now instr }
+    ensures { result ≡ spot_value spots.now cells.now env.now instr.now }
 {
     match instr {
-        Instr::One(op, a) => apply1(op, operand_word(env, a)),
-        Instr::Two(op, a, b) => apply2(op, operand_word(env, a), operand_word(env, b)),
+        Instr::One(op, a) => apply1(*op, operand_word(env, *a)),
+        Instr::Two(op, a, b) => apply2(*op, operand_word(env, *a), operand_word(env, *b)),
         Instr::Pick(c, a, b) => pick(
-            operand_word(env, c),
-            operand_word(env, a),
-            operand_word(env, b),
+            operand_word(env, *c),
+            operand_word(env, *a),
+            operand_word(env, *b),
         ),
-        Instr::Hash(kind, a, b, c) => {
-            hash(
-                kind,
-                operand_word(env, a),
-                operand_word(env, b),
-                operand_word(env, c),
-            )
-        }
-        Instr::Move(a) | Instr::Store(_, a) => operand_word(env, a),
-        Instr::Yes(guard, c) => both(operand_word(env, guard) != 0, operand_word(env, c) != 0),
-        Instr::No(guard, c) => both(operand_word(env, guard) != 0, operand_word(env, c) == 0),
-        Instr::Index(array, a) => index_of(operand_word(env, a), spot_of(spots, array)),
-        Instr::Load(array) => word_at(cells, cell_at(spot_of(spots, array), env)),
+        Instr::Hash(kind, a, b, c) => hash(
+            *kind,
+            operand_word(env, *a),
+            operand_word(env, *b),
+            operand_word(env, *c),
+        ),
+        Instr::Move(a) | Instr::Store(_, a) => operand_word(env, *a),
+        Instr::Yes(guard, c) => both(operand_word(env, *guard) != 0, operand_word(env, *c) != 0),
+        Instr::No(guard, c) => both(operand_word(env, *guard) != 0, operand_word(env, *c) == 0),
+        Instr::Index(array, a) => index_of(operand_word(env, *a), spot_of(spots, *array)),
+        Instr::Load(array) => word_at(cells, cell_at(spot_of(spots, *array), env)),
     }
 }
 
@@ -122,5 +120,18 @@ fn index_of(word: i32, spot: Spot) -> i32
     requires most { spot.length ≤ 65536 }
     ensures { result ≡ pos (cell word spot.length) }
 {
-    cell_of(word, spot.length) as i32
+    cell_named(word, spot.length) as i32
+}
+
+// The cell that a word names. Most words are an index already, and aren't divided.
+fn cell_named(word: i32, length: u32) -> u32
+    requires least { 1 ≤ length }
+    requires most { length ≤ 65536 }
+    ensures value { result ≡ cell word length }
+    ensures bound { result < length }
+{
+    match u32::try_from(word) {
+        Ok(number) if number < length => number,
+        _ => cell_of(word, length),
+    }
 }

@@ -1,13 +1,23 @@
-use Rattle.std.proofs.Common.{◌≡◌, ◌<◌, ◌≤◌, ◌+◌, length, subst, sym, arith}
-use Rattle.code_forms.specs.Staged.{point}
+use Rattle.std.proofs.Common.{◌≡◌, ◌<◌, ◌≤◌, ◌+◌, ◌∙◌, length, subst, sym, ap, arith}
+use Rattle.code_forms.specs.Staged.{Staged, point, IsStaged}
+use Rattle.code_forms.specs.Needed.{steps_of}
 use Rattle.code_forms.specs.Running.{RunsTo}
-use Rattle.code_forms.proofs.RunningLemmas.{point_within, runs_none, runs_more}
+use Rattle.code_forms.proofs.RunningLemmas.{point_within, runs_none, runs_more, spots_seen}
 use Rattle.code_forms.proofs.staged.StagedCode.run_part.Goals as goal
 
-pub step-requires : goal.step-requires
-step-requires c =
+pub step-requires-clause-place : goal.step-requires-clause-place
+step-requires-clause-place c =
     let last : point c.args.self.now (c.args.k + 1) ≤ length c.args.self.now.order = point_within c.args.self.now (c.args.k + 1) c.point-to.ensures.laws.parts (omega (arith, c.point-to.ensures.laws.parts.count, c.requires)) in
     omega (arith, last, c.point-to.ensures.point, c.loop-p-test.true)
+
+pub step-requires-clause-staged : goal.step-requires-clause-staged
+step-requires-clause-staged c = subst (λ (s : Staged). IsStaged s) c.self.view_is c.self.invariant.staged
+
+pub step-requires-clause-spots : goal.step-requires-clause-spots
+step-requires-clause-spots c = spots_seen _ _ _ _ c.self.view_is c.as_slice-spots.ensures c.self.invariant.spots
+
+pub step-requires-clause-steps : goal.step-requires-clause-steps
+step-requires-clause-steps c = c.as_slice-steps.ensures ∙ c.self.invariant.steps ∙ ap steps_of c.self.view_is
 
 pub loop-p-init : goal.loop-p-init
 loop-p-init c =
